@@ -1,11 +1,11 @@
 //! The program: words, files and standard streams of the process, handed to `run_tool`.
 //!
 //! What goes in: the process's words and files. What comes out: its two streams and its status.
-//! The contract: none of its own. `FileSource` and `StdSink` of `ix_streams` are the trusted edge: their logs say what the system's calls handed out and took.
-//! It stands on `ix_tool` and `ix_streams`, and never looks at what it hands on.
+//! The contract: none of its own. `FileSource` and `StdSink` of `ix_process` are the trusted edge: their logs say what the system's calls handed out and took.
+//! It stands on `ix_tool` and `ix_process`, and never looks at what it hands on.
 #![tactic(auto)]
 
-use ix_streams::{FileSource, StdSink};
+use ix_process::{FileSource, StdSink};
 use ix_tool::{Status, run_tool, wanting};
 use std::alloc::Global;
 use std::env;

@@ -5,12 +5,20 @@
 //! The contract: each is the bound of `ix_facts`, of all facts.
 //! It stands on `ix_facts` for the facts on a path and for bounds.
 //! It never looks at how facts are kept.
+//!
+//! Which claims what is known proves.
+//!
+//! What goes in: what is known, a claim and a path. What comes out: whether the claim of the path is proved.
+//! The contract: `proves` of `ix_facts`, exactly.
+//! It stands on `ix_facts` for bounds, by `Know`.
+//! It never looks at a table, nor at the program.
 #![tactic(auto)]
 
 mod ends;
 mod groups;
 mod limits;
 mod numbers;
+mod proved;
 mod said;
 mod shifted;
 mod stored;
@@ -21,6 +29,7 @@ pub use groups::Groups;
 pub use ix_facts::{Indexed, Know, Path, PathClaim, PathOff};
 pub use limits::{lower_bound, upper_limit};
 pub use numbers::{past, short_of, within};
+pub use proved::is_proved;
 pub use said::{has_length, has_negative, has_search, stored_same};
 pub use stored::fact_less_among;
 pub use upper::{less_bound, upper_bound};

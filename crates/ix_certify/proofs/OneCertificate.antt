@@ -6,8 +6,8 @@ use Rattle.ix_core.specs.declared.program.Method.{Method}
 use Rattle.ix_core.specs.declared.program.Program.{Program}
 use Rattle.ix_core.specs.Tables.{method_at, no_method}
 use Rattle.ix_facts.specs.Stores.{Stored, SayTheSame}
-use Rattle.ix_least.specs.SameLabels.{SameStores, SameForMethod, SameLabels}
-use Rattle.ix_least.proofs.OneText.{one_text}
+use Rattle.ix_cert.specs.SameLabels.{SameStores, SameForMethod, SameLabels}
+use Rattle.ix_cert.proofs.OneText.{one_text}
 use Rattle.ix_certify.specs.Certificates.{AreLeastOf, IsLeastCertificate}
 
 same_stores : (stores others : List Stored) → length stores ≡ length others → ((loop : ℕ) (one two : Stored) → slice_get stores loop ≡ Some one → slice_get others loop ≡ Some two → SayTheSame one two) → SameStores stores others

@@ -12,9 +12,9 @@ use Rattle.ix_facts.specs.Stores.{Stored}
 use Rattle.ix_graph.specs.declared.node.Node.{Node}
 use Rattle.ix_graph.specs.Built.{kind_of}
 use Rattle.ix_graph.specs.Graph.{Kind}
-use Rattle.ix_method_errors.specs.Ranked.{Ranked}
-use Rattle.ix_method_errors.specs.Exactly.{AddsExactly}
-use Rattle.ix_method_errors.proofs.Refused.{exactly_none, exactly_same, adds_both}
+use Rattle.ix_errors.specs.declared.ranked.Ranked.{Ranked}
+use Rattle.ix_errors.specs.Exactly.{AddsExactly}
+use Rattle.ix_errors.proofs.Refused.{exactly_none, exactly_same, adds_both}
 use Rattle.ix_labels.specs.Runs.{node_in_turn}
 use Rattle.ix_labels.specs.Store.{Store}
 use Rattle.ix_labels.specs.StoredFacts.{stored}

@@ -20,7 +20,7 @@ use Rattle.ix_core.specs.Tables.{method_at, no_method, param_slot}
 use Rattle.ix_core.specs.Types.{is_type, is_void, is_empty, is_int_type, is_array_type}
 use Rattle.ix_core.proofs.Cases.{by_test}
 use Rattle.ix_core.proofs.TypedCalls.{method_has}
-use Rattle.ix_steps.specs.MachineSteps.{IsDeclared}
+use Rattle.ix_rules_hold.specs.MachineSteps.{IsDeclared}
 
 abbrev pub OffsetDeclared : Off → Type 0
 OffsetDeclared off.Nothing = Unit {0}

@@ -16,9 +16,10 @@ mod DeclaredNames
 mod SameSignature
 mod SameErrors
 mod JudgedAlone
--- Passed on from ix_method_errors.
-pub use Rattle.ix_method_errors.proofs.Refused
-pub use Rattle.ix_method_errors.proofs.MethodLaws
-pub use Rattle.ix_method_errors.proofs.Lists
--- Passed on from ix_sound.
-pub use Rattle.ix_sound.proofs.Ready
+mod TwoParts
+-- Passed on from ix_errors.
+pub use Rattle.ix_errors.proofs.Refused
+pub use Rattle.ix_errors.proofs.MethodLaws
+pub use Rattle.ix_errors.proofs.Lists
+-- Passed on from ix_soundness.
+pub use Rattle.ix_soundness.proofs.Ready

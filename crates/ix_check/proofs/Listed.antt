@@ -8,11 +8,11 @@ use Rattle.ix_core.specs.Safe.{Safe}
 use Rattle.ix_core.specs.declared.claim.Type_.{Type_}
 use Rattle.ix_core.specs.Ready.{CanCheck, LocalsApart}
 use Rattle.ix_check.specs.MethodErrors.{HaveNone}
-use Rattle.ix_method_errors.specs.Ranked.{Ranked}
-use Rattle.ix_method_errors.specs.Exactly.{AreExactly}
-use Rattle.ix_sound.specs.Sound.{HasNoErrors}
-use Rattle.ix_method_errors.specs.ErrorList.{IsErrorList, In}
-use Rattle.ix_method_errors.proofs.Lists.{same_list, none_listed}
+use Rattle.ix_errors.specs.declared.ranked.Ranked.{Ranked}
+use Rattle.ix_errors.specs.Exactly.{AreExactly}
+use Rattle.ix_soundness.specs.Sound.{HasNoErrors}
+use Rattle.ix_errors.specs.ErrorList.{IsErrorList, In}
+use Rattle.ix_errors.proofs.Lists.{same_list, none_listed}
 
 pub derived_list : (Derived : Error → ℕ → Type 0) (found : List Ranked) (errors : List Error) → AreExactly Derived found → IsErrorList (In found) errors → IsErrorList Derived errors
 derived_list Derived found errors exact list = same_list (In found) Derived (λ error rank has. exact.only (record { error = error; rank = rank }) has) exact.all errors list

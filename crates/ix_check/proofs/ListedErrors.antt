@@ -9,7 +9,7 @@ use Rattle.ix_core.specs.declared.program.Program.{Program}
 use Rattle.ix_core.specs.CodePlaces.{PlacesWithin}
 use Rattle.ix_check.specs.MethodErrors.{IsErrorOf, IsError}
 use Rattle.ix_check.proofs.ErrorPlaces.{error_starts}
-use Rattle.ix_method_errors.specs.ErrorList.{IsErrorList}
+use Rattle.ix_errors.specs.ErrorList.{IsErrorList}
 
 -- ---- an error that a list doesn't have: it starts behind all of them
 

@@ -16,8 +16,8 @@ use Rattle.ix_core.specs.declared.error.Subject.{Subject}
 use Rattle.ix_core.specs.declared.error.Subject.TheVariants.{Element, Param, Local, FieldNamed, Result, PostField}
 use Rattle.ix_core.specs.SameClaims.{same_name, same_offset, same_claim}
 use Rattle.ix_core.proofs.RepeatedClaims.{same_claims}
-use Rattle.ix_method_errors.specs.Ranked.{Ranked}
-use Rattle.ix_method_errors.specs.Exactly.{IsListed}
+use Rattle.ix_errors.specs.declared.ranked.Ranked.{Ranked}
+use Rattle.ix_errors.specs.Exactly.{IsListed}
 
 abbrev pub Told : {A : Type 0} → A → A → Type 0
 Told x y = (x ≡ y) ⊎ (x ≡ y → ⊥)

@@ -14,7 +14,7 @@ use Rattle.ix_core.specs.Types.{Point, meeting, point_below}
 use Rattle.ix_core.proofs.Cases.{equal}
 use Rattle.ix_graph.specs.Graph.{Part, Source, Unreached, From, Through, Onward, leads, code_parts, condition_parts, method_parts}
 use Rattle.ix_graph.specs.Heads.{AreInOrder}
-use Rattle.ix_sound.proofs.Ready.{types_at, parts}
+use Rattle.ix_soundness.proofs.Ready.{types_at, parts}
 
 -- ---- numbers in order
 

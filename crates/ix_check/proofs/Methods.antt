@@ -7,10 +7,10 @@ use Rattle.ix_core.specs.declared.program.Program.{Program}
 use Rattle.ix_core.specs.Code.{block_code}
 use Rattle.ix_core.specs.Tables.{method_at}
 use Rattle.ix_graph.specs.Graph.{behind_code}
-use Rattle.ix_method_errors.specs.Ranked.{Ranked}
-use Rattle.ix_method_errors.specs.Exactly.{AreExactly, AddsExactly}
-use Rattle.ix_method_errors.proofs.Refused.{exactly_none, exactly_same, adds_both}
-use Rattle.ix_sound.specs.Sound.{HasNoErrors}
+use Rattle.ix_errors.specs.declared.ranked.Ranked.{Ranked}
+use Rattle.ix_errors.specs.Exactly.{AreExactly, AddsExactly}
+use Rattle.ix_errors.proofs.Refused.{exactly_none, exactly_same, adds_both}
+use Rattle.ix_soundness.specs.Sound.{HasNoErrors}
 use Rattle.ix_check.specs.MethodErrors.{IsErrorOf, IsErrorBelow, HaveNone, nodes_below}
 use Rattle.ix_labels.specs.Visits.{VisitsWithin}
 use Rattle.ix_check.specs.Visits.{VisitsOfFirst}

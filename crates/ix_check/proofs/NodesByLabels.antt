@@ -13,9 +13,9 @@ use Rattle.ix_graph.specs.GraphSolutions.{AllPoints, label_at}
 use Rattle.ix_graph.specs.Linked.{kinds_in}
 use Rattle.ix_labels.specs.MethodRules.{method_rules}
 use Rattle.ix_labels.specs.RuleErrors.{OpText, TestEscapes}
-use Rattle.ix_method_errors.specs.Ranked.{Ranked}
+use Rattle.ix_errors.specs.declared.ranked.Ranked.{Ranked}
 use Rattle.ix_labels.specs.Store.{Store}
-use Rattle.ix_sound.specs.Errors.{NoErrors}
+use Rattle.ix_soundness.specs.Errors.{NoErrors}
 use Rattle.ix_check.specs.NodeErrors.{LabelGives, TextGives}
 use Rattle.ix_check.specs.MethodErrors.{Derives}
 use Rattle.ix_check.proofs.Texts.{Here, InKinds}

@@ -24,14 +24,14 @@ use Rattle.ix_labels.specs.MethodRules.{method_rules}
 use Rattle.ix_labels.specs.RuleErrors.{OverridesBy, OpText, TestEscapes}
 use Rattle.ix_labels.proofs.MethodLaws.{method_laws}
 use Rattle.ix_labels.proofs.ErrorsWeaker.{errors_weaker}
-use Rattle.ix_method_errors.specs.Ranked.{Ranked}
-use Rattle.ix_method_errors.specs.Exactly.{IsListed, AreExactly, AddsExactly}
-use Rattle.ix_method_errors.proofs.Refused.{adds_both}
+use Rattle.ix_errors.specs.declared.ranked.Ranked.{Ranked}
+use Rattle.ix_errors.specs.Exactly.{IsListed, AreExactly, AddsExactly}
+use Rattle.ix_errors.proofs.Refused.{adds_both}
 use Rattle.ix_labels.specs.Store.{Store}
 use Rattle.ix_labels.specs.StoredFacts.{stored}
 use Rattle.ix_solve.proofs.LabelLists.{meaning_at}
-use Rattle.ix_sound.specs.Errors.{NoErrors}
-use Rattle.ix_sound.specs.Sound.{HasNoErrors}
+use Rattle.ix_soundness.specs.Errors.{NoErrors}
+use Rattle.ix_soundness.specs.Sound.{HasNoErrors}
 use Rattle.ix_check.specs.NodeErrors.{LabelGives, TextGives, NodeGives, AtNode}
 use Rattle.ix_check.specs.MethodErrors.{Derives, IsErrorOf}
 use Rattle.ix_check.proofs.NodesByLabels.{AvoidAll, kind_there, node_there, store_there, avoid, refused, text_at, at_text, together}

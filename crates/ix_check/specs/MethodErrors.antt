@@ -13,9 +13,9 @@ use Rattle.ix_graph.specs.Graph.{behind_code, method_parts}
 use Rattle.ix_graph.specs.Heads.{AreInOrder}
 use Rattle.ix_labels.specs.MethodRules.{method_rules}
 use Rattle.ix_labels.specs.RuleErrors.{PointErrors, TextErrors}
-use Rattle.ix_method_errors.specs.Ranked.{Ranked}
+use Rattle.ix_errors.specs.declared.ranked.Ranked.{Ranked}
 use Rattle.ix_labels.specs.Naming.{HaveSmallNames}
-use Rattle.ix_sound.specs.Sound.{HasNoErrors}
+use Rattle.ix_soundness.specs.Sound.{HasNoErrors}
 
 -- what a store gives at a point
 abbrev pub Derives : Program → Method → ℕ → Point → Stored → Ranked → Type 0

@@ -13,8 +13,8 @@ use Rattle.ix_labels.specs.Filled.{nodes_of, AreFilled}
 use Rattle.ix_labels.specs.RuleErrors.{PointErrors, OpText, TestEscapes}
 use Rattle.ix_labels.specs.Store.{Store}
 use Rattle.ix_labels.specs.StoredFacts.{stored}
-use Rattle.ix_method_errors.specs.Ranked.{Ranked}
-use Rattle.ix_method_errors.specs.Exactly.{AddsExactly}
+use Rattle.ix_errors.specs.declared.ranked.Ranked.{Ranked}
+use Rattle.ix_errors.specs.Exactly.{AddsExactly}
 
 -- by the label of a node
 abbrev pub LabelGives : Program → Method → ℕ → Kind → Stored → Error → ℕ → Type 0

@@ -4,15 +4,15 @@ ghost use Rattle.ix_core.specs.Formed.{Formed};
 ghost use Rattle.ix_core.specs.Tables.{method_at};
 ghost use Rattle.ix_core.specs.Ready.{CanCheck};
 ghost use Rattle.ix_check.specs.MethodErrors.{IsErrorOf};
-ghost use Rattle.ix_method_errors.specs.ErrorList.{IsErrorList};
+ghost use Rattle.ix_errors.specs.ErrorList.{IsErrorList};
 ghost use Rattle.ix_check.specs.Signatures.{signatures, ErrorsOf};
 
 use crate::laws::{judged_alone, loops_are_in_order};
 use crate::program::ranked_errors;
 use ix_core::{Error, Profile, Program};
-use ix_method_errors::signs::list_errors;
+use ix_errors::list_errors;
 use ix_solve::Steps;
-use ix_sound::{names_are_small, overridden_is_there};
+use ix_soundness::{names_are_small, overridden_is_there};
 use std::alloc::{AllocError, Global};
 use std::marker::Brand;
 use std::sync::ledger::{Blank, Ledger};

@@ -12,7 +12,7 @@ use crate::laws::loops_are_in_order;
 use ix_core::{Method, Profile, Program};
 use ix_labels::{Store, loop_labels};
 use ix_solve::Steps;
-use ix_sound::names_are_small;
+use ix_soundness::names_are_small;
 use std::alloc::{AllocError, Global};
 use std::marker::Brand;
 use std::sync::ledger::{Blank, Ledger};

@@ -3,18 +3,17 @@
 ghost use Rattle.std.specs.Prelude.{OnOk};
 ghost use Rattle.ix_graph.specs.Built.{kind_of};
 ghost use Rattle.ix_labels.specs.StoredFacts.{stored};
-ghost use Rattle.ix_method_errors.specs.Exactly.{AddsExactly};
+ghost use Rattle.ix_errors.specs.Exactly.{AddsExactly};
 ghost use Rattle.ix_labels.specs.Naming.{HasSmallNames, HaveSmallNames};
 ghost use Rattle.ix_check.specs.NodeErrors.{LabelGives, TextGives, NodeGives, AddsAtLabels};
 
 use ix_core::{Method, Program};
+use ix_errors::{
+    Ranked, push_assigned_parameter, push_constructor_errors, push_effect_error, push_escapes_in,
+    push_escapes_of, push_missing_return, push_op_errors, push_post_errors, push_return_errors,
+};
 use ix_graph::NodeKind;
 use ix_labels::{RunLabels, Store};
-use ix_method_errors::signs::{
-    Ranked, push_constructor_errors, push_effect_error, push_missing_return, push_post_errors,
-    push_return_errors,
-};
-use ix_method_errors::{push_assigned_parameter, push_escapes_in, push_escapes_of, push_op_errors};
 use std::alloc::{AllocError, Global};
 
 /// Those that a node's label gives.

@@ -1,13 +1,13 @@
 //! All errors of a program, and those of one of its methods.
 
 ghost use Rattle.std.specs.Prelude.{◌≡◌, ◌+◌, ◌≤◌, ◌<◌, [], IfOk, length};
-ghost use Rattle.ix_method_errors.specs.Exactly.{AreExactly};
+ghost use Rattle.ix_errors.specs.Exactly.{AreExactly};
 ghost use Rattle.ix_check.specs.MethodErrors.{IsReady, IsErrorOf, IsError, HaveNone, nodes_below};
 ghost use Rattle.ix_check.specs.Visits.{AllVisitsWithin};
 
 use crate::method::push_method_errors;
 use ix_core::{Profile, Program};
-use ix_method_errors::signs::Ranked;
+use ix_errors::Ranked;
 use ix_solve::Steps;
 use std::alloc::{AllocError, Global};
 use std::sync::ledger::Ledger;

@@ -7,14 +7,14 @@ ghost use Rattle.ix_core.specs.Safe.{Safe};
 ghost use Rattle.ix_core.specs.Ready.{CanCheck};
 ghost use Rattle.ix_check.specs.MethodErrors.{IsError, nodes_below};
 ghost use Rattle.ix_check.specs.Visits.{AllVisitsWithin};
-ghost use Rattle.ix_method_errors.specs.ErrorList.{IsErrorList};
+ghost use Rattle.ix_errors.specs.ErrorList.{IsErrorList};
 
 use crate::laws::loops_are_in_order;
 use crate::program::program_errors;
 use ix_core::{Error, Profile, Program};
-use ix_method_errors::signs::list_errors;
+use ix_errors::list_errors;
 use ix_solve::Steps;
-use ix_sound::{names_are_small, overridden_is_there, soundness};
+use ix_soundness::{names_are_small, overridden_is_there, soundness};
 use std::alloc::{AllocError, Global};
 use std::marker::Brand;
 use std::sync::ledger::{Blank, Ledger};

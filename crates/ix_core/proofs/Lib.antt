@@ -43,3 +43,4 @@ mod InputRows
 pub mod PostRows
 pub mod TaskPlaces
 pub mod RunPlaces
+pub mod Ways

@@ -18,6 +18,12 @@ pub mod Types
 pub mod Formed
 pub mod Typed
 pub mod TypedStates
+-- What holds of the places in a program, and of the place where a run stops.
+pub mod CodePlaces
+pub mod EndingPlaces
+-- What is asked of a program that is checked.
+pub mod Ready
+pub mod PathNumber
 -- Passed on from ix_num.
 pub use Rattle.ix_num.specs.Arithmetic
 pub use Rattle.ix_num.specs.Comparisons
@@ -29,8 +35,3 @@ pub use Rattle.ix_num.specs.declared.interval.Interval
 pub use Rattle.ix_num.specs.declared.rel.Rel
 -- Passed on from ix_text.
 pub use Rattle.ix_text.specs.declared.span.Span
--- What holds of the places in a program, and of the place where a run stops.
-pub mod CodePlaces
-pub mod EndingPlaces
--- What is asked of a program that is checked.
-pub mod Ready

@@ -10,7 +10,7 @@ use Rattle.ix_core.specs.declared.fact.Path.TheVariants.{Slot, FieldOf}
 use Rattle.ix_core.specs.declared.fact.Fact.{Fact}
 use Rattle.ix_facts.specs.Bounds.{greatest, least, at_least, at_most, range_low, range_high, lower_by, lower_bound, limit_by, upper_limit}
 use Rattle.ix_facts.specs.Small.{IsLimit}
-use Rattle.ix_path_index.specs.ByPath.{is_near, near_place}
+use Rattle.ix_fact_paths.specs.ByPath.{is_near, near_place}
 use Rattle.ix_fact_list.specs.NearNumbers.{number_at, AreNumbers, AreLimits}
 use Rattle.ix_fact_list.proofs.NearRaised.{Rising, Falling}
 

@@ -17,8 +17,8 @@ use Rattle.ix_facts.specs.Bounds.{is_path, when, best, best_of, greatest, least,
 use Rattle.ix_facts.specs.PathOrder.{path_same}
 use Rattle.ix_facts.specs.Small.{HasSmallNumbers, IsClass, IsEnd, IsLimit, IsBound}
 use Rattle.ix_bounds.proofs.BestOfParts.{low_joined, high_joined}
-use Rattle.ix_path_index.specs.ByPath.{is_near, near_place}
-use Rattle.ix_path_index.proofs.NearPlaces.{number_itself, number_same, place_tells}
+use Rattle.ix_fact_paths.specs.ByPath.{is_near, near_place}
+use Rattle.ix_fact_paths.proofs.NearPlaces.{number_itself, number_same, place_tells}
 use Rattle.ix_fact_list.specs.NearNumbers.{number_at, Raises, Lowers, AreLimits, AreNumbers}
 
 -- ---- one number

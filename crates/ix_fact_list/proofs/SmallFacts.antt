@@ -7,8 +7,8 @@ use Rattle.ix_facts.specs.Small.{HasSmallNumbers}
 use Rattle.ix_facts.specs.Bounds.{is_path}
 use Rattle.ix_facts.specs.Forget.{names}
 use Rattle.ix_bounds.specs.Ends.{is_end, ends_in}
-use Rattle.ix_path_index.specs.ByPath.{on_it}
-use Rattle.ix_path_index.specs.Grouped.{few, on_list}
+use Rattle.ix_fact_paths.specs.ByPath.{on_it}
+use Rattle.ix_fact_paths.specs.Grouped.{few, on_list}
 use Rattle.ix_core.proofs.Cases.{by_test}
 
 on_it_small : (p : Path) (facts : List Fact) → All HasSmallNumbers facts → All HasSmallNumbers (on_it p facts)

@@ -9,8 +9,8 @@ use Rattle.ix_facts.specs.Forget.{names}
 use Rattle.ix_bounds.specs.Ends.{is_end, ends_in}
 use Rattle.ix_bounds.specs.Links.{is_link, links_in}
 use Rattle.ix_bounds.specs.Lengths.{is_len, lengths_in, lengths_of_ends}
-use Rattle.ix_path_index.specs.Grouped.{few, on_list}
-use Rattle.ix_path_index.specs.OnListLaws.{on_list_named}
+use Rattle.ix_fact_paths.specs.Grouped.{few, on_list}
+use Rattle.ix_fact_paths.specs.OnListLaws.{on_list_named}
 
 -- what two tests let through, one after the other, the first lets through
 filtered_twice : (is other : Fact → Bool) (facts : List Fact) → filter is (filter other (filter is facts)) ≡ filter other (filter is facts)

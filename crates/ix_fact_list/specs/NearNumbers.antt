@@ -5,7 +5,7 @@ use Rattle.ix_core.specs.declared.fact.Path.{Path}
 use Rattle.ix_core.specs.declared.fact.Fact.{Fact}
 use Rattle.ix_facts.specs.Bounds.{is_path, when, at_least, at_most, range_low, range_high, length_low, length_high, lower_bound, upper_limit}
 use Rattle.ix_facts.specs.Small.{IsLimit}
-use Rattle.ix_path_index.specs.ByPath.{is_near, near_place}
+use Rattle.ix_fact_paths.specs.ByPath.{is_near, near_place}
 use Rattle.ix_fact_list.specs.declared.limits.NearEnds.{NearEnds}
 use Rattle.ix_fact_list.specs.declared.limits.Limits.{Limits}
 

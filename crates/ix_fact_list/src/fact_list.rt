@@ -9,18 +9,18 @@ ghost use Rattle.ix_facts.specs.After.{of_target};
 ghost use Rattle.ix_facts.specs.Exact.{named_ints, named_arrays};
 ghost use Rattle.ix_facts.specs.Small.{HasSmallNumbers};
 ghost use Rattle.ix_bounds.specs.Ends.{ends_in};
-ghost use Rattle.ix_path_index.specs.ByPath.{put_all};
-ghost use Rattle.ix_path_index.specs.Grouped.{on_grouped, on_list};
-ghost use Rattle.ix_path_index.specs.Spared.{some_named};
+ghost use Rattle.ix_fact_paths.specs.ByPath.{put_all};
+ghost use Rattle.ix_fact_paths.specs.Grouped.{on_grouped, on_list};
+ghost use Rattle.ix_fact_paths.specs.Spared.{some_named};
 
 use crate::ends::ends_of;
 use ix_bounds::{self, Groups, Indexed};
 use ix_core::{Fact, OpKind, Path, PathOff};
-use ix_facts::Know;
-use ix_path_index::{
+use ix_fact_paths::{
     Grouped, assigned_path, in_all_orders, ints_and_arrays, names_path, names_target,
     some_name_path, some_name_target,
 };
+use ix_facts::Know;
 use std::alloc::{AllocError, Global};
 use std::marker::Model;
 
@@ -200,8 +200,8 @@ impl FactList {
 impl Groups for FactList {
     ghost use Rattle.ix_facts.specs.Facts.{in_orders};
     ghost use Rattle.ix_bounds.specs.Ends.{ends_in};
-    ghost use Rattle.ix_path_index.specs.Grouped.{on_list};
-    ghost use Rattle.ix_path_index.specs.OnListLaws.{on_list_named, on_list_only};
+    ghost use Rattle.ix_fact_paths.specs.Grouped.{on_list};
+    ghost use Rattle.ix_fact_paths.specs.OnListLaws.{on_list_named, on_list_only};
     ghost use Rattle.ix_fact_list.specs.GroupLaws.{ends_named, links_among, lengths_among};
 
     ghost all = { λ list. in_orders list };
@@ -248,8 +248,8 @@ impl Groups for FactList {
 impl Know for FactList {
     ghost use Rattle.ix_facts.specs.Facts.{in_orders};
     ghost use Rattle.ix_facts.specs.Exact.{named_ints, named_arrays};
-    ghost use Rattle.ix_path_index.specs.ByPath.{put_all};
-    ghost use Rattle.ix_path_index.specs.PutLaws.{put_once};
+    ghost use Rattle.ix_fact_paths.specs.ByPath.{put_all};
+    ghost use Rattle.ix_fact_paths.specs.PutLaws.{put_once};
 
     ghost known = { λ list. list };
 
@@ -332,8 +332,8 @@ impl Know for FactList {
 
 impl Indexed for FactList {
     ghost use Rattle.ix_facts.specs.Facts.{in_orders};
-    ghost use Rattle.ix_path_index.specs.Grouped.{on_list};
-    ghost use Rattle.ix_path_index.specs.OnListLaws.{on_list_named};
+    ghost use Rattle.ix_fact_paths.specs.Grouped.{on_list};
+    ghost use Rattle.ix_fact_paths.specs.OnListLaws.{on_list_named};
 
     ghost on_path = { λ list p. on_list (in_orders list) p };
 

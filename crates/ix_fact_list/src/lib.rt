@@ -2,7 +2,7 @@
 //!
 //! What goes in: facts. What comes out: the bounds that they give, and the facts that name a path.
 //! The contract: `Know`, `Groups` and `Indexed`, met by `FactList`, and `Limits`: what each near int is at least and at most.
-//! It stands on `ix_bounds` for bounds by the facts on a path, on `ix_path_index` for these, on `ix_facts` for facts.
+//! It stands on `ix_bounds` for bounds by the facts on a path, on `ix_fact_paths` for these, on `ix_facts` for facts.
 //! It never looks at a rule: what an operation or a test gives is not told here.
 #![tactic(auto)]
 
@@ -13,7 +13,7 @@ mod limits;
 pub use ends::{before_links, up_to_ends};
 pub use fact_list::FactList;
 pub use ix_bounds as bounds;
-pub use ix_path_index::{
+pub use ix_fact_paths::{
     have_one_order, in_all_orders, ints_and_arrays, ints_and_arrays_among, with_ints,
 };
 pub use limits::Limits;

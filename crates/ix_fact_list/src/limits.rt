@@ -7,12 +7,12 @@ ghost use Rattle.ix_facts.specs.Bounds as spec;
 ghost use Rattle.ix_facts.specs.Bounds.{at_least, at_most, is_path, when};
 ghost use Rattle.ix_facts.specs.Small.{HasSmallNumbers, IsEnd, IsLimit};
 ghost use Rattle.ix_bounds.specs.Ends.{ends_in};
-ghost use Rattle.ix_path_index.specs.ByPath.{is_near};
+ghost use Rattle.ix_fact_paths.specs.ByPath.{is_near};
 ghost use Rattle.ix_fact_list.specs.NearNumbers.{number_at, told, Raises, Lowers, AreLimits, HasEnds, HasLimits};
 
 use ix_bounds::{self, Groups, past, short_of, within};
 use ix_core::{Fact, Path, PathOff};
-use ix_path_index::{PLACES, near_place};
+use ix_fact_paths::{PLACES, near_place};
 use std::alloc::{AllocError, Global};
 
 /// The least int.

@@ -5,10 +5,22 @@ pub mod SaidAlready
 pub mod RisingSteps
 mod KeptFronts
 pub mod OneKind
-pub mod Searches
+pub mod KeySearches
 mod PutFacts
 mod PiledFacts
 pub mod KeysApart
 pub mod LessFacts
 mod WentWell
 mod NumbersMet
+pub mod JoinedClasses
+pub mod LengthLinks
+mod Members
+mod HighEnds
+pub mod RangesMet
+mod Shown
+mod ListedArrays
+mod OverLabels
+mod OverBoth
+mod ClassesOfInts
+pub mod Only
+mod BesideClosed

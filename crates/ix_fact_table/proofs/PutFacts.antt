@@ -19,7 +19,7 @@ use Rattle.ix_fact_table.specs.Entries.{HasInt, entry_of}
 use Rattle.ix_fact_table.specs.RisingLaws.{table_rises}
 use Rattle.ix_fact_table.specs.Walks.{ArePast, HasBoth, Merging}
 use Rattle.ix_fact_table.proofs.MergedTables.{halves_form, halves_table, one_form, one_table, no_table}
-use Rattle.ix_fact_table.proofs.Searches.{comparisons_rise, earlier}
+use Rattle.ix_fact_table.proofs.KeySearches.{comparisons_rise, earlier}
 use Rattle.ix_fact_table.proofs.WalksAlongBoth.{has_first_alone, merging_starts, merging_left, merging_right, merging_both, merging_ends}
 
 -- what holds at each place of a part holds of each fact of it

@@ -10,5 +10,12 @@ pub mod Piles
 pub mod FactTables
 pub mod Apart
 pub mod TableLaws
--- Passed on from ix_path_index.
-pub use Rattle.ix_path_index.specs.Spared
+pub mod Classes
+pub mod Links
+pub mod Listed
+pub mod Saturated
+pub mod Beside
+-- Passed on from ix_fact_paths.
+pub use Rattle.ix_fact_paths.specs.Spared
+pub use Rattle.ix_fact_paths.specs.ByPath
+pub use Rattle.ix_fact_paths.specs.PutLaws

@@ -12,7 +12,7 @@ use crate::entries::{in_first_order, is_said_of_all};
 use crate::order::compare_facts;
 use crate::rising::{has_ends, is_before};
 use ix_core::Fact;
-use ix_path_index::compare_paths;
+use ix_fact_paths::compare_paths;
 use std::alloc::{AllocError, Global};
 use std::cmp::Ordering;
 

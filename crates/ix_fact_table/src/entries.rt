@@ -9,7 +9,7 @@ ghost use Rattle.ix_fact_table.specs.Entries as spec;
 ghost use Rattle.ix_fact_table.specs.Entries.{HasInt};
 
 use ix_core::{Fact, Path, PathOff};
-use ix_path_index::compare_paths;
+use ix_fact_paths::compare_paths;
 use std::cmp::Ordering;
 
 /// Whether the first path comes after the second in the order of paths.

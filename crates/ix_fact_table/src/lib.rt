@@ -4,25 +4,41 @@
 //! The contract: `IsTable` of `ix_facts`, exactly; the join says what both tables say (`IsCommon`); the order is that of what tables say (`SaysAll`).
 //! It stands on `ix_facts` for facts and what they say, on `ix_lattice` for ranks.
 //! It never looks at a rule: which facts an operation gives is told to it.
+//!
+//! What follows from facts, as a list: what holds along arrays of one length, searches, negative answers and classes of ints.
+//!
+//! What goes in: facts. What comes out: more facts, so that tables of both say all that follows from the facts, and nothing else.
+//! The contract: `more_that_follows`, and `more_beside` of closed facts and few new ones, over `Follows` of `ix_facts`.
+//! It stands on `ix_fact_table` for the ranges among the facts, on `ix_fact_paths` for sets of paths.
+//! It never looks at how the list is kept, nor at the program.
 #![tactic(auto)]
 
 mod apart;
+mod beside;
+mod classes;
+mod closing;
 mod entries;
 mod fact_table;
 mod insertion;
 mod kinds;
+mod labels;
+mod links;
+mod listed;
 mod look_ups;
 mod meets;
 mod order;
 mod rising;
 mod row;
+mod searches;
 mod sorted;
 mod tables;
 mod walks;
 
 pub use apart::{are_apart, are_proper};
+pub use beside::{are_plain, more_beside};
+pub use closing::more_that_follows;
 pub use fact_table::FactTable;
-pub use ix_path_index::{
+pub use ix_fact_paths::{
     assigned_path, is_of_path, is_of_target, names_path, rounded_facts, some_name_path,
 };
 pub use order::compare_facts;

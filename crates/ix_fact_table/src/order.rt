@@ -9,7 +9,7 @@ ghost use Rattle.ix_fact_table.specs.FactOrder as spec;
 ghost use Rattle.ix_fact_table.specs.FactOrder.{third, fact_cmp, kind_cmp, rest_cmp};
 
 use ix_core::{Fact, Path};
-use ix_path_index::{compare_offsets, compare_paths};
+use ix_fact_paths::{compare_offsets, compare_paths};
 use std::cmp::Ordering;
 
 /// The path that a fact speaks of first.

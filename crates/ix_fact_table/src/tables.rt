@@ -25,8 +25,8 @@ use crate::row::Row;
 use crate::sorted::sorted;
 use crate::walks::{covers_all, merged, shared};
 use ix_core::{Fact, OpKind, Path};
+use ix_fact_paths::{facts_without_path, facts_without_target, rounded_facts};
 use ix_facts::{Kind, Landmarks};
-use ix_path_index::{facts_without_path, facts_without_target, rounded_facts};
 use std::alloc::{AllocError, Global};
 
 impl FactTable {

@@ -12,7 +12,7 @@ use crate::meets::{common, is_as_strong, met};
 use crate::order::compare_facts;
 use crate::rising::is_before;
 use ix_core::Fact;
-use ix_path_index::room_for;
+use ix_fact_paths::room_for;
 use std::alloc::{AllocError, Global};
 use std::cmp::Ordering;
 

@@ -100,3 +100,8 @@ pub mod ExpressionPlaces
 pub mod StatementPlaces
 pub mod ProgramPlaces
 pub mod PlacedPrograms
+mod NamesInScope
+mod ApartLocals
+mod LocalsCounted
+mod FewDeclared
+pub mod LoweredPrograms

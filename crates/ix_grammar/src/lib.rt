@@ -2,7 +2,7 @@
 //!
 //! `specs/` has one constructor for each alternative of docs/LANGUAGE.md, with heights and spans; `HasTree` and `Refused` are what `parse`
 //! answers. The code is the records that the relation speaks of (a node with its height and its last token), which a proof above can name.
-//! It stands on the tokens of `ix_lexer` and the types of `ix_tree`. It must know no order of reading: that is `ix_descent`'s.
+//! It stands on the tokens of `ix_lexer` and the types of `ix_tree`. It must know no order of reading: that is `ix_grammar_rules`'s.
 #![tactic(auto)]
 
 pub mod classes;

@@ -7,5 +7,5 @@ pub mod GuardedAccesses
 pub mod Trees
 pub mod Kept
 pub mod Shown
--- Passed on from ix_table.
-pub use Rattle.ix_table.specs.Resolved
+-- Passed on from ix_symbols.
+pub use Rattle.ix_symbols.specs.Resolved

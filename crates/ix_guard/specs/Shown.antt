@@ -1,6 +1,6 @@
 -- What a site, an access and the like of the code are as those of the definitions.
 use Rattle.std.specs.Prelude.{map}
-use Rattle.ix_table.specs.Numbered.{shown}
+use Rattle.ix_symbols.specs.Numbered.{shown}
 use Rattle.ix_guard.specs.declared.parts.Access.{Access as Found}
 use Rattle.ix_guard.specs.declared.site.Site.{Site as Known}
 use Rattle.ix_guard.specs.declared.test.Changes.{Changes as Changing}

@@ -1,7 +1,7 @@
 //! The text of a source with its guards.
 
 ghost use Rattle.std.specs.Prelude.{◌≡◌, ◌++◌, take, drop, IfOk, OnOk};
-ghost use Rattle.ix_table.specs.Numbered.{shown};
+ghost use Rattle.ix_symbols.specs.Numbered.{shown};
 ghost use Rattle.ix_guard.specs.Guards as spec;
 ghost use Rattle.ix_guard.specs.Kept.{IsSourceWith};
 ghost use Rattle.ix_guard.specs.Shown.{site_of};
@@ -10,7 +10,7 @@ use crate::insertion::Insertion;
 use crate::site::Site;
 use crate::statement::add_listed;
 use ix_core::Error;
-use ix_table::Table;
+use ix_symbols::Table;
 use ix_tree::{Member, Unit};
 use std::alloc::{AllocError, Global};
 

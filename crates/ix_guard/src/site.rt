@@ -3,12 +3,12 @@
 ghost use Rattle.std.specs.Prelude.{◌≡◌, ◌||◌, IfOk, OnOk};
 ghost use Rattle.std.specs.List.{list_any};
 ghost use Rattle.std.specs.HashSet.{contains};
-ghost use Rattle.ix_table.specs.Listed.{same_span};
+ghost use Rattle.ix_symbols.specs.Listed.{same_span};
 ghost use Rattle.ix_text.specs.declared.span.Span.{Span};
 ghost use Rattle.ix_guard.specs.Tests as spec;
 
 use ix_core::Error;
-use ix_table::Table;
+use ix_symbols::Table;
 use ix_text::Span;
 use std::alloc::{AllocError, Global};
 use std::collections::HashSet;

@@ -6,11 +6,11 @@ use Rattle.ix_tree.specs.declared.expr.Expr.{Expr, Expr-F, ind-Expr, map-Expr, r
 use Rattle.ix_tree.specs.declared.expr.ExprKind.{ExprKind, ExprKind-F, map-ExprKind, roll-ExprKind, fold-roll-ExprKind}
 use Rattle.ix_tree.specs.declared.expr.Init.{Init, Init-F, ind-Init, map-Init, roll-Init, fold-roll-Init}
 use Rattle.ix_tree.proofs.FoldsOfForms as fold
-use Rattle.ix_guarded_text.specs.Bare.{bare_maybe as maybe}
+use Rattle.ix_guard_text.specs.Bare.{bare_maybe as maybe}
 use Rattle.ix_guard_promise.specs.AllAccesses as any
 use Rattle.ix_guard_promise.specs.AllAccesses.{AnyAccess, Form, Reading, all, each, inside, unnamed, accessing, reading, all_accesses, init_accesses, decl_accesses, each_of}
-use Rattle.ix_guarded_text.specs.Moved as moved
-use Rattle.ix_guarded_text.specs.Moved.{Move, moved_span, moved_name, moved_type, moved_expr, moved_init, moved_decl}
+use Rattle.ix_guard_text.specs.Moved as moved
+use Rattle.ix_guard_text.specs.Moved.{Move, moved_span, moved_name, moved_type, moved_expr, moved_init, moved_decl}
 
 module _ (move : Move) where
   abbrev pub moved_any : AnyAccess → AnyAccess

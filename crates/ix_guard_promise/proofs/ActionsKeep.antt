@@ -7,10 +7,10 @@ use Rattle.ix_core.specs.Heap.{Held, Num, Boolean, Null, At, Object, ArrayOf, va
 use Rattle.ix_core.specs.Machine.{Outside, Negative, NullUsed, ZeroDivisor, is_int}
 use Rattle.ix_meaning.specs.declared.note.Meaning.{Meaning}
 use Rattle.ix_meaning.specs.Resolved.{Names}
-use Rattle.ix_source_meaning.specs.Runs.{Gives, Action, gives, stops, access, sees, wraps, with_heap, held_by, with_held, with_variables}
-use Rattle.ix_source_meaning.specs.Context.{Members, Calls, Context}
-use Rattle.ix_source_meaning.specs.Values.{Target, Variable, FieldOf, Cell, int_result, result_at, through, within, at_cell, at_field, field_cell, cell_read, field_read, written, load, store, get_field, put_field, length_of, made, array_of, of_variable, of_this, assign, read, write}
-use Rattle.ix_guarded_text.specs.Moved.{Move}
+use Rattle.ix_source.specs.Runs.{Gives, Action, gives, stops, access, sees, wraps, with_heap, held_by, with_held, with_variables}
+use Rattle.ix_source.specs.Context.{Members, Calls, Context}
+use Rattle.ix_source.specs.Values.{Target, Variable, FieldOf, Cell, int_result, result_at, through, within, at_cell, at_field, field_cell, cell_read, field_read, written, load, store, get_field, put_field, length_of, made, array_of, of_variable, of_this, assign, read, write}
+use Rattle.ix_guard_text.specs.Moved.{Move}
 use Rattle.ix_guard_promise.specs.Behind.{SameTarget}
 use Rattle.ix_guard_promise.proofs.Following.{Equal, KeepsBy, Keeps, gives_keep, stops_keep, heap_keeps, variables_keep, changed_keeps, access_unprinted, seen_alike}
 

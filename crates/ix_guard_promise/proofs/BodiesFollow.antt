@@ -7,15 +7,15 @@ use Rattle.ix_core.specs.Machine.{NullUsed}
 use Rattle.ix_core.specs.Tables.{default_result}
 use Rattle.ix_tree.specs.declared.expr.Init.{Init}
 use Rattle.ix_meaning.specs.Resolved.{Names}
-use Rattle.ix_source_meaning.specs.Runs.{Variables, Now, Result, Gives, Stops, Cuts, Action, ◌>>=◌, gives, with_heap, with_variables}
-use Rattle.ix_source_meaning.specs.Context.{Context, Members, Calls, declared_at, type_declared}
-use Rattle.ix_source_meaning.specs.Values.{initial, arguments_from, of_this, at_field, written as write_cell, put_field}
-use Rattle.ix_source_meaning.specs.Statements.{Completion, each}
-use Rattle.ix_source_meaning.specs.Bodies.{Written, Field, Class, Whole, variables, back, with_own, given_back, method_body, method_run, parent_constructed, field_initialised, fields_initialised, args_of, body_of, constructed, construct_run, context_of, no_calls, calls_within}
-use Rattle.ix_guarded_text.specs.Bare.{bare_maybe as maybe}
-use Rattle.ix_guarded_text.specs.Moved.{Move, moved_span, moved_init}
-use Rattle.ix_guarded_text.specs.GuardedPlaces as placed
-use Rattle.ix_guarded_text.specs.GuardedPlaces.{Each}
+use Rattle.ix_source.specs.Runs.{Variables, Now, Result, Gives, Stops, Cuts, Action, ◌>>=◌, gives, with_heap, with_variables}
+use Rattle.ix_source.specs.Context.{Context, Members, Calls, declared_at, type_declared}
+use Rattle.ix_source.specs.Values.{initial, arguments_from, of_this, at_field, written as write_cell, put_field}
+use Rattle.ix_source.specs.Statements.{Completion, each}
+use Rattle.ix_source.specs.Bodies.{Written, Field, Class, Whole, variables, back, with_own, given_back, method_body, method_run, parent_constructed, field_initialised, fields_initialised, args_of, body_of, constructed, construct_run, context_of, no_calls, calls_within}
+use Rattle.ix_guard_text.specs.Bare.{bare_maybe as maybe}
+use Rattle.ix_guard_text.specs.Moved.{Move, moved_span, moved_init}
+use Rattle.ix_guard_text.specs.GuardedPlaces as placed
+use Rattle.ix_guard_text.specs.GuardedPlaces.{Each}
 use Rattle.ix_guard_promise.specs.Behind.{Like, now_of, PrintedFirst, Shows, Behind, both_give, both_stop, both_cut, thrown, Follows, CallsFollow, ContextFollows}
 use Rattle.ix_guard_promise.proofs.Following.{first_itself, shows_then, equal_then, equal_gives}
 use Rattle.ix_guard_promise.proofs.ExpressionsFollow.{initialiser_keeps}

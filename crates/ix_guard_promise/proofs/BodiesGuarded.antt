@@ -13,7 +13,7 @@ use Rattle.ix_tree.specs.declared.decl.Member.{Member}
 use Rattle.ix_tree.specs.declared.decl.MethodDecl.{MethodDecl}
 use Rattle.ix_tree.specs.declared.expr.Expr.{Expr}
 use Rattle.ix_tree.specs.declared.expr.Init.{Init}
-use Rattle.ix_guarded_text.specs.Bare.{bare_maybe}
+use Rattle.ix_guard_text.specs.Bare.{bare_maybe}
 use Rattle.ix_meaning.specs.declared.note.Which.TheVariants as which
 use Rattle.ix_plain.specs.declared.body.Body.{Body}
 use Rattle.ix_plain.specs.declared.made.Made.{Made}
@@ -30,16 +30,16 @@ use Rattle.ix_formed.specs.Readable.{is_readable_expr, is_readable_init, is_read
 use Rattle.ix_formed.specs.Written.{maybe_true, each_true}
 use Rattle.ix_formed.proofs.PlainItems.{makes_more, makes_then, made_is}
 use Rattle.ix_formed.proofs.PlainMethods.{each_readable}
-use Rattle.ix_kept_runs.specs.Running.{Ground}
-use Rattle.ix_kept_runs.specs.SoundStatements.{statement_soundness, where_made, each_sound}
-use Rattle.ix_kept_runs.proofs.SoundRuns.{runs_are}
+use Rattle.ix_source.specs.Running.{Ground}
+use Rattle.ix_source.specs.SoundStatements.{statement_soundness, where_made, each_sound}
+use Rattle.ix_source.proofs.SoundRuns.{runs_are}
 use Rattle.ix_guard.specs.Accesses.{Access}
 use Rattle.ix_guard.specs.Tests.{Site}
 use Rattle.ix_guard_promise.specs.Known.{Unknown, accessed}
 use Rattle.ix_guard_promise.specs.Guards.{Guards, Guarded, does, ends}
 use Rattle.ix_guard_promise.specs.Pieces.{IsElsewhere}
 use Rattle.ix_guard_promise.proofs.GuardedPieces.{elsewhere}
-use Rattle.ix_guarded_text.specs.Moved.{Move, moved_span, moved_expr, moved_init, moved_decl}
+use Rattle.ix_guard_text.specs.Moved.{Move, moved_span, moved_expr, moved_init, moved_decl}
 use Rattle.ix_guard_promise.specs.TestParts.{Parts}
 use Rattle.ix_guard_promise.specs.GuardedPlaces as placed
 use Rattle.ix_guard_promise.specs.GuardedPlaces.{Each, PlacedMember, PlacedMethod}

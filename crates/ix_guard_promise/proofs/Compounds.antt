@@ -24,8 +24,8 @@ use Rattle.ix_plain.specs.Statements as plain
 use Rattle.ix_plain.specs.Statements.{Running, Inside, Tested, scope_for, ran, all_ran, tested, tested_if, branch, branch_if, inside, with_last, behind, in_loop, no_block, answer, answer_item}
 use Rattle.ix_formed.specs.Additions.{Makes, AllOf}
 use Rattle.ix_formed.proofs.PlainItems.{makes_more, makes_then}
-use Rattle.ix_kept_runs.specs.Running.{Ground}
-use Rattle.ix_kept_runs.specs.SoundStatements.{StatementSoundness, running_of, where_made, begun, used_at, used_if, part_sound, part_if, each_sound, all_ran_at, chosen_sound, while_sound, do_sound, loop_sound, for_sound}
+use Rattle.ix_source.specs.Running.{Ground}
+use Rattle.ix_source.specs.SoundStatements.{StatementSoundness, running_of, where_made, begun, used_at, used_if, part_sound, part_if, each_sound, all_ran_at, chosen_sound, while_sound, do_sound, loop_sound, for_sound}
 use Rattle.ix_guard_promise.specs.Known.{Known, Nowhere, Unknown, accessed}
 use Rattle.ix_guard_promise.specs.Known as flow
 use Rattle.ix_guard_promise.specs.Guards.{Guarded, GuardedAsked, IsGuarded, ends, does, chooses, returns, loops, certain}

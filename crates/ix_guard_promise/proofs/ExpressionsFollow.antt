@@ -6,13 +6,13 @@ use Rattle.ix_core.specs.Heap.{Num, Boolean, Null}
 use Rattle.ix_tree.specs.declared.expr.Expr.{Expr, Expr-F, ind-Expr, map-Expr, roll-Expr, fold-roll-Expr}
 use Rattle.ix_tree.specs.declared.expr.ExprKind.{ExprKind, ExprKind-F, map-ExprKind, roll-ExprKind, fold-ExprKind, fold-roll-ExprKind}
 use Rattle.ix_tree.specs.declared.expr.Init.{Init, Init-F, ind-Init, map-Init, roll-Init, fold-roll-Init}
-use Rattle.ix_source_meaning.specs.Context.{Context}
-use Rattle.ix_source_meaning.specs.Values as source
-use Rattle.ix_source_meaning.specs.Values.{Evaluation, Initial, evaluation, initial}
-use Rattle.ix_source_meaning.proofs.Equations as equations
-use Rattle.ix_source_meaning.proofs.Equations.{kind_evaluation}
-use Rattle.ix_guarded_text.specs.Moved as moved
-use Rattle.ix_guarded_text.specs.Moved.{Move, moved_span, moved_name, moved_type, moved_expr, moved_init}
+use Rattle.ix_source.specs.Context.{Context}
+use Rattle.ix_source.specs.Values as source
+use Rattle.ix_source.specs.Values.{Evaluation, Initial, evaluation, initial}
+use Rattle.ix_source.proofs.Equations as equations
+use Rattle.ix_source.proofs.Equations.{kind_evaluation}
+use Rattle.ix_guard_text.specs.Moved as moved
+use Rattle.ix_guard_text.specs.Moved.{Move, moved_span, moved_name, moved_type, moved_expr, moved_init}
 use Rattle.ix_guard_promise.specs.Behind.{FollowsBy, Follows, SameTarget, ContextFollows}
 use Rattle.ix_guard_promise.proofs.ActionsKeep.{in_context, this_keeps}
 use Rattle.ix_guard_promise.proofs.FormsKeep as form

@@ -17,8 +17,8 @@ use Rattle.ix_core.specs.declared.program.Method.{Method}
 use Rattle.ix_core.specs.declared.program.Program.{Program}
 use Rattle.ix_facts.specs.Stores.{Stored}
 use Rattle.ix_flow.specs.Flow.{Doing, Returning, Ending}
-use Rattle.ix_claim_facts.specs.Names.{variable_at}
-use Rattle.ix_claim_facts.specs.SignErrors.{Refuses, Unproved, ArgumentClaim, plain, part}
+use Rattle.ix_signatures.specs.Names.{variable_at}
+use Rattle.ix_signatures.specs.SignErrors.{Refuses, Unproved, ArgumentClaim, plain, part}
 use Rattle.ix_check.specs.RuleErrors.{AccessLow, AccessHigh, AssignClaim, KindErrors}
 use Rattle.ix_guard_promise.specs.Known.{Known, Nowhere, Unknown, Inside, accessed, IsInside}
 use Rattle.ix_guard_promise.specs.KnownFacts.{store_of}

@@ -4,8 +4,8 @@ use Rattle.std.proofs.lemmas.List.{append-nil}
 use Rattle.ix_core.specs.Heap.{Heap, Held}
 use Rattle.ix_core.specs.Machine.{Ending}
 use Rattle.ix_core.specs.Traces.{Observation, Printed, Accessed}
-use Rattle.ix_source_meaning.specs.Runs.{Variables, Now, Result, Gives, Stops, Cuts, Action, ◌>>=◌, go_on, access, sees, gives, stops, cuts}
-use Rattle.ix_guarded_text.specs.Moved.{Move}
+use Rattle.ix_source.specs.Runs.{Variables, Now, Result, Gives, Stops, Cuts, Action, ◌>>=◌, go_on, access, sees, gives, stops, cuts}
+use Rattle.ix_guard_text.specs.Moved.{Move}
 use Rattle.ix_guard_promise.specs.Follows.{printed, SameEnding}
 use Rattle.ix_guard_promise.specs.Behind.{Like, now_of, PrintedFirst, Shows, Behind, both_give, both_stop, both_cut, thrown, FollowsBy, Follows}
 

@@ -10,8 +10,8 @@ use Rattle.ix_tree.specs.declared.stmt.StmtKind.TheVariants as s
 use Rattle.ix_tree.proofs.FoldsOfForms as fold
 use Rattle.ix_formed.specs.Readable as readable
 use Rattle.ix_formed.specs.Readable.{Statement, stmt_shape}
-use Rattle.ix_kept_runs.specs.SoundStatements as sound
-use Rattle.ix_kept_runs.specs.SoundStatements.{StatementSoundness, statement_soundness}
+use Rattle.ix_source.specs.SoundStatements as sound
+use Rattle.ix_source.specs.SoundStatements.{StatementSoundness, statement_soundness}
 use Rattle.ix_guard.specs.Tests.{Site}
 use Rattle.ix_guard.specs.Trees.{statement}
 use Rattle.ix_guard_promise.specs.Outlines as outlines

@@ -20,12 +20,12 @@ use Rattle.ix_tree.specs.declared.expr.UnaryOp.TheVariants as operator
 use Rattle.ix_meaning.specs.declared.note.Meaning.{Meaning}
 use Rattle.ix_meaning.specs.declared.note.Meaning.TheVariants as meaning
 use Rattle.ix_meaning.specs.Resolved.{Names}
-use Rattle.ix_source_meaning.specs.Runs.{Action, ◌>>=◌, gives}
-use Rattle.ix_source_meaning.specs.Context.{Members, Calls, Context, or_void, type_at}
-use Rattle.ix_source_meaning.specs.Values as source
-use Rattle.ix_source_meaning.specs.Values.{Target, Variable, FieldOf, Cell, Evaluation, Initial, computes, asks}
-use Rattle.ix_guarded_text.specs.Moved.{Move, moved_span, moved_name}
-use Rattle.ix_guarded_text.specs.GuardedNames.{SaysMoved}
+use Rattle.ix_source.specs.Runs.{Action, ◌>>=◌, gives}
+use Rattle.ix_source.specs.Context.{Members, Calls, Context, or_void, type_at}
+use Rattle.ix_source.specs.Values as source
+use Rattle.ix_source.specs.Values.{Target, Variable, FieldOf, Cell, Evaluation, Initial, computes, asks}
+use Rattle.ix_guard_text.specs.Moved.{Move, moved_span, moved_name}
+use Rattle.ix_guard_text.specs.GuardedNames.{SaysMoved}
 use Rattle.ix_guard_promise.specs.Behind.{SameTarget, CallsFollow}
 use Rattle.ix_guard_promise.proofs.Following.{Equal, KeepsBy, Keeps, keeps_then, keeps_then_by, gives_keep, stops_keep, heap_keeps}
 use Rattle.ix_guard_promise.proofs.ActionsKeep.{in_context, if_keeps, gives_same, int_result_keeps, result_keeps, through_keeps, made_keeps, load_keeps, length_keeps, array_keeps, variable_keeps, this_keeps, get_field_keeps, read_keeps, write_keeps, target_itself}

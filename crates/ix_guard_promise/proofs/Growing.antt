@@ -16,7 +16,7 @@ use Rattle.ix_plain.specs.Values.{lowering}
 use Rattle.ix_plain.specs.Statements.{Inside, Tested, Evaluated, scope_for, evaluated, behind_value, used, ran, tested, inside, in_loop, most_loops}
 use Rattle.ix_formed.specs.Additions.{Makes}
 use Rattle.ix_formed.proofs.PlainItems.{makes_more, makes_then}
-use Rattle.ix_kept_runs.specs.SoundStatements.{where_made, begun}
+use Rattle.ix_source.specs.SoundStatements.{where_made, begun}
 use Rattle.ix_guard_promise.specs.Known as flow
 use Rattle.ix_guard_promise.specs.Known.{Known, Unknown, Says}
 use Rattle.ix_guard_promise.specs.Guards.{Guarded, GuardedAsked, ends}

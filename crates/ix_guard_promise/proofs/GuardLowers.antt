@@ -18,7 +18,7 @@ use Rattle.ix_plain.specs.Assigned.{assigns}
 use Rattle.ix_plain.specs.Values.{lowering}
 use Rattle.ix_plain.specs.Statements as statements
 use Rattle.ix_plain.specs.Statements.{Running, Tested, scope_of, scope_for, behind, with_last, tested, chosen}
-use Rattle.ix_guarded_text.specs.TestParts.{Parts, condition_of, throw_of, guard_of}
+use Rattle.ix_guard_text.specs.TestParts.{Parts, condition_of, throw_of, guard_of}
 use Rattle.ix_guard_promise.specs.TestTrees.{Means, parts_at}
 use Rattle.ix_guard_promise.specs.TestForms.{Tests, Asks, Guards}
 use Rattle.ix_guard_promise.proofs.NothingAssigned.{condition_assigns}

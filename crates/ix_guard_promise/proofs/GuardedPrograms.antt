@@ -9,9 +9,9 @@ use Rattle.ix_meaning.specs.Resolved.{Names, names, Accepts}
 use Rattle.ix_meaning.specs.Source.{members_in}
 use Rattle.ix_plain.specs.Program.{program}
 use Rattle.ix_formed.specs.Parsed.{IsParsed}
-use Rattle.ix_kept_runs.specs.Running.{Ground}
+use Rattle.ix_source.specs.Running.{Ground}
 use Rattle.ix_guard_promise.specs.Guards.{Guards}
-use Rattle.ix_guarded_text.specs.Moved.{Move, moved_span}
+use Rattle.ix_guard_text.specs.Moved.{Move, moved_span}
 use Rattle.ix_guard_promise.specs.GuardedPlaces.{PlacedSource}
 use Rattle.ix_guard_promise.specs.GuardedNames.{SaysMoved, IsMeant}
 use Rattle.ix_guard_promise.specs.SourceGuards.{SourceGuards}

@@ -11,14 +11,14 @@ use Rattle.ix_tree.specs.declared.decl.ClassDecl.{ClassDecl}
 use Rattle.ix_tree.specs.declared.decl.Unit.{Unit as Source}
 use Rattle.ix_meaning.specs.Resolved.{Names, names}
 use Rattle.ix_meaning.specs.Classes as classes
-use Rattle.ix_source_meaning.specs.Runs.{Result, Gives, Stops, Cuts}
-use Rattle.ix_source_meaning.specs.Context.{type_declared}
-use Rattle.ix_source_meaning.specs.Bodies.{Written, Whole, whole, method_run, context_of, calls_within}
-use Rattle.ix_source_meaning.specs.Source.{shown_by, types_of, begun, run_of, source}
+use Rattle.ix_source.specs.Runs.{Result, Gives, Stops, Cuts}
+use Rattle.ix_source.specs.Context.{type_declared}
+use Rattle.ix_source.specs.Bodies.{Written, Whole, whole, method_run, context_of, calls_within}
+use Rattle.ix_source.specs.Source.{shown_by, types_of, begun, run_of, source}
 use Rattle.ix_guard.specs.Tests.{Site}
-use Rattle.ix_guarded_text.specs.Moved.{Move, moved_span}
-use Rattle.ix_guarded_text.specs.GuardedNames.{SaysMoved, IsMeant}
-use Rattle.ix_guarded_text.specs.GuardedPlaces.{Each, PlacedClass, PlacedSource}
+use Rattle.ix_guard_text.specs.Moved.{Move, moved_span}
+use Rattle.ix_guard_text.specs.GuardedNames.{SaysMoved, IsMeant}
+use Rattle.ix_guard_text.specs.GuardedPlaces.{Each, PlacedClass, PlacedSource}
 use Rattle.ix_guard_promise.specs.Follows.{printed, FollowsRun, same, cut}
 use Rattle.ix_guard_promise.specs.Follows as follows
 use Rattle.ix_guard_promise.specs.Behind.{Like, now_of, Behind, both_give, both_stop, both_cut, thrown}

@@ -11,19 +11,19 @@ use Rattle.ix_meaning.specs.Resolved.{Accepts, names}
 use Rattle.ix_formed.specs.Parsed.{IsParsed}
 use Rattle.ix_guard.specs.Guards.{guarded, insertions}
 use Rattle.ix_guard.specs.Tests.{Site}
-use Rattle.ix_guarding.proofs.DerivedAnswers.{one_lexing, one_source}
-use Rattle.ix_guarding.specs.Inserted.{added}
-use Rattle.ix_guarded_text.proofs.GuardedAgain.{derived_accepts}
-use Rattle.ix_guarded_text.proofs.ParsedJoint.{parsed_joint}
+use Rattle.ix_guard_text.proofs.DerivedAnswers.{one_lexing, one_source}
+use Rattle.ix_guard_text.specs.Inserted.{added}
+use Rattle.ix_guard_text.proofs.GuardedAgain.{derived_accepts}
+use Rattle.ix_guard_text.proofs.ParsedJoint.{parsed_joint}
 use Rattle.ix_guard_promise.specs.GuardedPlaces.{PlacedSource, GuardedAt}
 use Rattle.ix_guard_promise.specs.GuardedNames.{SaysMoved, IsMeant}
 use Rattle.ix_guard_promise.specs.TestParts.{IsWritten}
 use Rattle.ix_guard_promise.proofs.SourcePlaces.{guarded_places}
-use Rattle.ix_guarded_text.proofs.MovedSays.{inserted_says}
-use Rattle.ix_guarded_text.proofs.PlacedSays.{placed_says}
-use Rattle.ix_guarded_text.proofs.PlacedMeant.{placed_meant}
-use Rattle.ix_guarding.specs.Guarding.{IsGuarded}
-use Rattle.ix_guarding.proofs.DerivedGuards.{text_derives}
+use Rattle.ix_guard_text.proofs.MovedSays.{inserted_says}
+use Rattle.ix_guard_text.proofs.PlacedSays.{placed_says}
+use Rattle.ix_guard_text.proofs.PlacedMeant.{placed_meant}
+use Rattle.ix_guard_text.specs.Guarding.{IsGuarded}
+use Rattle.ix_guard_text.proofs.DerivedGuards.{text_derives}
 use Rattle.ix_guard_promise.specs.Promise.{IsTreeOf, into_guarded}
 
 -- each tree of the tokens of bytes has what a parsed tree has

@@ -16,7 +16,7 @@ use Rattle.ix_facts.specs.Stores.{Stored, Unreachable, Reached, IsBelow, IsAbove
 use Rattle.ix_facts.proofs.ClosureLaws.{said_follows}
 use Rattle.ix_facts.proofs.SaidLaws.{says_more}
 use Rattle.ix_facts.proofs.StoreLaws.{below_itself}
-use Rattle.ix_claim_facts.specs.Signs.{Adds, Forgets, Copies}
+use Rattle.ix_signatures.specs.Signs.{Adds, Forgets, Copies}
 use Rattle.ix_guard_promise.specs.Known.{Known, Nowhere, Unknown, Inside}
 use Rattle.ix_guard_promise.specs.KnownFacts.{inside_facts, store_of}
 

@@ -16,9 +16,9 @@ use Rattle.ix_facts.specs.Forget.{of_slot, of_path, of_field, of_this}
 use Rattle.ix_facts.specs.After.{of_target}
 use Rattle.ix_facts.specs.Stores.{Stored, Reached, Gives, operated}
 use Rattle.ix_facts.proofs.StoreLaws.{below_itself}
-use Rattle.ix_steps.specs.FieldAccess.{spared_by}
-use Rattle.ix_claim_facts.specs.Names.{is_built}
-use Rattle.ix_claim_facts.specs.Signs.{of_callee, result_facts, read_facts, write_facts, zero_fields, own_fields, fields_facts, inherited_fields}
+use Rattle.ix_rules_hold.specs.FieldAccess.{spared_by}
+use Rattle.ix_signatures.specs.Names.{is_built}
+use Rattle.ix_signatures.specs.Signs.{of_callee, result_facts, read_facts, write_facts, zero_fields, own_fields, fields_facts, inherited_fields}
 use Rattle.ix_check.specs.MethodRules.{copied_claims, KindGives, AfterGives}
 use Rattle.ix_check.proofs.MethodLaws.{kind_step}
 use Rattle.ix_guard_promise.specs.Known.{Known, Nowhere, Unknown, Inside, writes, behind}

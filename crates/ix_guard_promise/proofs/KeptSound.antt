@@ -14,9 +14,9 @@ use Rattle.ix_meaning.specs.declared.note.Meaning.TheVariants as meaning
 use Rattle.ix_plain.specs.Scope.{slot_of, meaning_at, type_at, head_at}
 use Rattle.ix_formed.specs.Additions.{AllOf}
 use Rattle.ix_formed.proofs.NumberLists.{all_so, all_joined}
-use Rattle.ix_kept_runs.specs.Along.{Setting}
-use Rattle.ix_kept_runs.specs.Sound as sound
-use Rattle.ix_kept_runs.specs.Sound.{Soundness, soundness, init_soundness, used, all_used}
+use Rattle.ix_source.specs.Along.{Setting}
+use Rattle.ix_source.specs.Sound as sound
+use Rattle.ix_source.specs.Sound.{Soundness, soundness, init_soundness, used, all_used}
 use Rattle.ix_guard.specs.Accesses as accesses
 use Rattle.ix_guard.specs.Accesses.{Parts, Reading, reading, parts_of, init_parts, place_of, all, each, nothing}
 use Rattle.ix_guard.specs.Tests.{same_variable, is_variable}

@@ -19,15 +19,15 @@ use Rattle.ix_plain.specs.Statements.{scope_for, declarations}
 use Rattle.ix_formed.specs.Additions.{Makes}
 use Rattle.ix_formed.specs.Readable.{is_readable_expr, is_readable_decl}
 use Rattle.ix_formed.specs.Written.{each_true}
-use Rattle.ix_kept_runs.specs.Running.{Ground}
-use Rattle.ix_kept_runs.specs.SoundStatements.{ran_at, declared_sound}
-use Rattle.ix_guarded_text.specs.Bare.{bare_maybe}
+use Rattle.ix_source.specs.Running.{Ground}
+use Rattle.ix_source.specs.SoundStatements.{ran_at, declared_sound}
+use Rattle.ix_guard_text.specs.Bare.{bare_maybe}
 use Rattle.ix_guard.specs.Accesses.{Access, parts_of, all_decl_parts}
 use Rattle.ix_guard.specs.Tests.{Site, is_variable, same_variable}
 use Rattle.ix_guard_promise.specs.Pieces.{IsElsewhere, Keeps}
 use Rattle.ix_guard_promise.specs.GuardedNames.{SaysMoved}
 use Rattle.ix_guard_promise.proofs.PartsMoved.{assigned_moved, decls_assigned_moved}
-use Rattle.ix_guarded_text.specs.Moved.{Move, moved_span, moved_name, moved_expr, moved_init, moved_decl, moved_stmt}
+use Rattle.ix_guard_text.specs.Moved.{Move, moved_span, moved_name, moved_expr, moved_init, moved_decl, moved_stmt}
 use Rattle.ix_guard_promise.specs.AllAccesses.{AnyAccess, all_accesses, init_accesses, decl_accesses, each_of}
 use Rattle.ix_guard_promise.specs.AtPlace.{HasNone, stmt_accesses}
 use Rattle.ix_guard_promise.specs.InScope.{IsAt, IsUnnamed, Calls, OnlyOf}
@@ -39,9 +39,8 @@ use Rattle.ix_guard_promise.proofs.SoundKept.{named_at, variable_some, Spares, A
 use Rattle.ix_guard_promise.proofs.KeptPieces.{kept_leaving, kept_declarations}
 use Rattle.ix_guard_promise.proofs.Elsewhere.{expression_elsewhere, initialiser_elsewhere}
 use Rattle.ix_guard_promise.proofs.ElsewhereStatements.{statement_elsewhere}
-use Rattle.ix_guard_promise.specs.SourceGuards.{AreKept}
+use Rattle.ix_guard_promise.specs.SourceGuards.{AreKept, HasOnly}
 use Rattle.ix_guard_promise.specs.Laws.{LowersEach, IsInSlot, AreInSlots, changes_of, Laws}
-use Rattle.ix_guard_promise.specs.SourceGuards.{HasOnly}
 use Rattle.ix_guard_promise.proofs.NoneInOutlines.{none_in_statement}
 
 -- ---- what is added

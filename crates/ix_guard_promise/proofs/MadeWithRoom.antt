@@ -17,7 +17,7 @@ use Rattle.ix_plain.specs.Values as values
 use Rattle.ix_plain.specs.Values.{Lowering, lowering}
 use Rattle.ix_plain.specs.Statements as statements
 use Rattle.ix_plain.specs.Statements.{Running, scope_of, scope_for, tested, chosen}
-use Rattle.ix_guarded_text.specs.TestParts.{Parts, null_test, negative_test, high_test, condition_of, guard_of}
+use Rattle.ix_guard_text.specs.TestParts.{Parts, null_test, negative_test, high_test, condition_of, guard_of}
 use Rattle.ix_guard_promise.specs.TestTrees.{Means}
 use Rattle.ix_guard_promise.specs.TestForms.{IsMade}
 use Rattle.ix_guard_promise.proofs.PartsLower.{comparison_lowers, either_lowers, name_value, null_value, zero_value, length_value}

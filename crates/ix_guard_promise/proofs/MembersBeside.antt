@@ -15,15 +15,15 @@ use Rattle.ix_tree.specs.declared.expr.Expr.{Expr}
 use Rattle.ix_tree.specs.declared.expr.Init.{Init}
 use Rattle.ix_meaning.specs.Members.{next_field, next_fields}
 use Rattle.ix_meaning.specs.Resolved.{Names}
-use Rattle.ix_source_meaning.specs.Context.{Context, Members, type_declared}
-use Rattle.ix_source_meaning.specs.Values.{evaluation, initial, arguments_from}
-use Rattle.ix_source_meaning.specs.Bodies.{Written, Field, Class, Whole, or_none, name_of, written, written_in, written_from, with_field, fields_in, constructor_in, classes_from, own_fields, all_fields, fresh_field, static_of, found, members}
-use Rattle.ix_guarded_text.specs.Bare.{bare_maybe as maybe}
+use Rattle.ix_source.specs.Context.{Context, Members, type_declared}
+use Rattle.ix_source.specs.Values.{evaluation, initial, arguments_from}
+use Rattle.ix_source.specs.Bodies.{Written, Field, Class, Whole, or_none, name_of, written, written_in, written_from, with_field, fields_in, constructor_in, classes_from, own_fields, all_fields, fresh_field, static_of, found, members}
+use Rattle.ix_guard_text.specs.Bare.{bare_maybe as maybe}
 use Rattle.ix_guard.specs.Tests.{Site}
-use Rattle.ix_guarded_text.specs.Moved.{Move, moved_span, moved_expr, moved_init, moved_decl}
-use Rattle.ix_guarded_text.specs.GuardedNames.{SaysMoved, IsMeant}
-use Rattle.ix_guarded_text.specs.GuardedPlaces as placed
-use Rattle.ix_guarded_text.specs.GuardedPlaces.{Each, InList, PlacedMethod, PlacedMember, PlacedClass}
+use Rattle.ix_guard_text.specs.Moved.{Move, moved_span, moved_expr, moved_init, moved_decl}
+use Rattle.ix_guard_text.specs.GuardedNames.{SaysMoved, IsMeant}
+use Rattle.ix_guard_text.specs.GuardedPlaces as placed
+use Rattle.ix_guard_text.specs.GuardedPlaces.{Each, InList, PlacedMethod, PlacedMember, PlacedClass}
 use Rattle.ix_guard_promise.specs.Behind.{Shows, Follows, ContextFollows}
 use Rattle.ix_guard_promise.proofs.Following.{first_itself, shows_then, equal_then, equal_gives}
 use Rattle.ix_guard_promise.proofs.ExpressionsFollow.{expression_keeps}

@@ -3,14 +3,14 @@ use Rattle.std.proofs.Common.{List, [], ◌∷◌, map, Some, None, sym, ap, sub
 use Rattle.ix_text.specs.declared.span.Span.{Span}
 use Rattle.ix_tree.specs.declared.stmt.Stmt.{Stmt, Stmt-F, ind-Stmt, map-Stmt, roll-Stmt, fold-roll-Stmt}
 use Rattle.ix_tree.specs.declared.stmt.StmtKind.{StmtKind, StmtKind-F, map-StmtKind, roll-StmtKind, fold-StmtKind, fold-roll-StmtKind}
-use Rattle.ix_source_meaning.specs.Context.{Context}
-use Rattle.ix_source_meaning.specs.Statements as statements
-use Rattle.ix_source_meaning.specs.Statements.{Normal, Breaks, Continues, Execution, or_nothing, execution}
-use Rattle.ix_source_meaning.proofs.Equations as equations
-use Rattle.ix_source_meaning.proofs.Equations.{kind_execution}
-use Rattle.ix_guarded_text.specs.Bare.{bare_maybe as maybe}
-use Rattle.ix_guarded_text.specs.Moved as moved
-use Rattle.ix_guarded_text.specs.Moved.{Move, moved_span, moved_name, moved_expr, moved_decl, moved_stmt}
+use Rattle.ix_source.specs.Context.{Context}
+use Rattle.ix_source.specs.Statements as statements
+use Rattle.ix_source.specs.Statements.{Normal, Breaks, Continues, Execution, or_nothing, execution}
+use Rattle.ix_source.proofs.Equations as equations
+use Rattle.ix_source.proofs.Equations.{kind_execution}
+use Rattle.ix_guard_text.specs.Bare.{bare_maybe as maybe}
+use Rattle.ix_guard_text.specs.Moved as moved
+use Rattle.ix_guard_text.specs.Moved.{Move, moved_span, moved_name, moved_expr, moved_decl, moved_stmt}
 use Rattle.ix_guard_promise.specs.Behind.{ContextFollows}
 use Rattle.ix_guard_promise.proofs.StatementForms.{Keeps, AllKeep, none_keep, more_keep, keeps_as, completes_keeps, throw_keeps, print_keeps, run_keeps, return_keeps, local_keeps, block_keeps, choice_keeps, while_keeps, do_keeps, for_keeps}
 

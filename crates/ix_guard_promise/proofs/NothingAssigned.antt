@@ -11,7 +11,7 @@ use Rattle.ix_tree.proofs.FoldsOfForms as fold
 use Rattle.ix_guard.specs.Trees.{expression, named, either}
 use Rattle.ix_plain.specs.Scope.{Scope}
 use Rattle.ix_plain.specs.Assigned.{kind_step, init_step, expr_step, assigns}
-use Rattle.ix_guarded_text.specs.TestParts.{Parts, null_test, negative_test, high_test, condition_of}
+use Rattle.ix_guard_text.specs.TestParts.{Parts, null_test, negative_test, high_test, condition_of}
 
 -- behind the expression no other slots are known to be assigned than before it
 abbrev pub AssignsNothing : Expr → Type 0

@@ -7,10 +7,10 @@ use Rattle.ix_core.specs.Heap.{Held}
 use Rattle.ix_core.specs.Machine.{Ending, Thrown}
 use Rattle.ix_tree.specs.declared.expr.Expr.{Expr}
 use Rattle.ix_tree.specs.declared.expr.Init.{Init}
-use Rattle.ix_source_meaning.specs.Runs.{Action, stops}
-use Rattle.ix_source_meaning.specs.Context.{Calls, Context}
-use Rattle.ix_source_meaning.specs.Values.{evaluation, initial}
-use Rattle.ix_guarded_text.specs.Moved.{Move}
+use Rattle.ix_source.specs.Runs.{Action, stops}
+use Rattle.ix_source.specs.Context.{Calls, Context}
+use Rattle.ix_source.specs.Values.{evaluation, initial}
+use Rattle.ix_guard_text.specs.Moved.{Move}
 use Rattle.ix_guard_promise.specs.Behind.{now_of, Shows, Follows, thrown, ContextFollows}
 use Rattle.ix_guard_promise.proofs.Following.{first_beside}
 use Rattle.ix_guard_promise.proofs.ExpressionsFollow.{expression_keeps, initialiser_keeps}

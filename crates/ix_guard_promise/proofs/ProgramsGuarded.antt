@@ -27,16 +27,16 @@ use Rattle.ix_formed.specs.Shape.{IsMethod, IsDefault, IsOneDefault, IfElse, Are
 use Rattle.ix_formed.specs.Written.{each_true}
 use Rattle.ix_formed.proofs.AllMethods.{program_has}
 use Rattle.ix_formed.proofs.NumberLists.{all_joined}
-use Rattle.ix_kept_runs.specs.Running.{Ground}
-use Rattle.ix_kept_runs.specs.SoundBodies.{IsSoundMethod, begins_sound}
-use Rattle.ix_kept_runs.specs.SoundStatements.{statement_soundness, where_made, each_sound}
-use Rattle.ix_kept_runs.specs.Bodies.{AreSoundClasses}
-use Rattle.ix_kept_runs.proofs.SourcesSound.{sound_source, tables_give}
+use Rattle.ix_source.specs.Running.{Ground}
+use Rattle.ix_source.specs.SoundBodies.{IsSoundMethod, begins_sound}
+use Rattle.ix_source.specs.SoundStatements.{statement_soundness, where_made, each_sound}
+use Rattle.ix_source.specs.SoundClasses.{AreSoundClasses}
+use Rattle.ix_source.proofs.SourcesSound.{sound_source, tables_give}
 use Rattle.ix_guard.specs.Accesses.{Access}
 use Rattle.ix_guard.specs.Tests.{Site}
 use Rattle.ix_guard_promise.specs.Known.{Unknown}
 use Rattle.ix_guard_promise.specs.Guards.{Guards, ends}
-use Rattle.ix_guarded_text.specs.Moved.{Move, moved_span}
+use Rattle.ix_guard_text.specs.Moved.{Move, moved_span}
 use Rattle.ix_guard_promise.specs.TestParts.{Parts}
 use Rattle.ix_guard_promise.specs.GuardedPlaces as placed
 use Rattle.ix_guard_promise.specs.GuardedPlaces.{Each, PlacedMember, PlacedClass, PlacedSource}

@@ -12,13 +12,13 @@ use Rattle.ix_core.specs.Tables.{method_at, body_of}
 use Rattle.ix_guard.specs.Accesses.{Access}
 use Rattle.ix_guard.specs.GuardedAccesses.{guarded_accesses}
 use Rattle.ix_guard.specs.Guards.{insertions}
-use Rattle.ix_guarding.specs.Inserted.{added}
-use Rattle.ix_guarded_text.proofs.MovingApart.{moving_is_injective}
+use Rattle.ix_guard_text.specs.Inserted.{added}
+use Rattle.ix_guard_text.proofs.MovingApart.{moving_is_injective}
 use Rattle.ix_guard_promise.specs.SourceGuards.{IsAmong}
 use Rattle.ix_guard_promise.proofs.GuardedPrograms.{program_guards}
 use Rattle.ix_guard_promise.proofs.GuardedSources.{parsed_guards}
 use Rattle.ix_guard_promise.proofs.GuardedRuns.{guarded_runs_follow}
-use Rattle.ix_guarding.specs.Guarding.{IsGuarded}
+use Rattle.ix_guard_text.specs.Guarding.{IsGuarded}
 use Rattle.ix_guard_promise.specs.Promise.{HaveProgram, GuardsWell, AvoidsAt, into_guarded}
 use Rattle.ix_guard_promise.proofs.GuardedTrees.{TreesParsed, site, old_parsed, new_parsed, says, meant}
 
@@ -26,7 +26,7 @@ all_of_each : {A : Type 0} (P : A → Type 0) (xs : List A) → ((x : A) → IsA
 all_of_each P [] each = tt
 all_of_each P (x ∷ xs) each = (each x (inl refl), all_of_each P xs (λ y among. each y (inr among)))
 
--- What is parsed has what a parsed tree has: `tree_parsed` of `ix_command_inputs`.
+-- What is parsed has what a parsed tree has: `tree_parsed` of `ix_front`.
 module _ (parsing : TreesParsed) (profile : Profile) (bytes : List ℕ) where
   avoided : (errors : List Error) (text : List ℕ) (is : IsGuarded bytes errors text) (program : Program) → HaveProgram text program → (access : Access)
       → IsAmong access (guarded_accesses is.named.tree.source (names is.named.tree.source) errors) → AvoidsAt profile is.named.tree.source errors program access

@@ -11,7 +11,7 @@ use Rattle.ix_plain.specs.Scope.{Site}
 use Rattle.ix_plain.specs.Parts.{empty}
 use Rattle.ix_plain.specs.Statements as statements
 use Rattle.ix_plain.specs.Statements.{scope_of}
-use Rattle.ix_guarded_text.specs.TestParts.{Parts, guard_of}
+use Rattle.ix_guard_text.specs.TestParts.{Parts, guard_of}
 use Rattle.ix_guard_promise.specs.TestTrees.{Means}
 use Rattle.ix_guard_promise.specs.TestForms.{Guards, IsMade}
 use Rattle.ix_guard_promise.proofs.GuardLowers.{guard_lowers}

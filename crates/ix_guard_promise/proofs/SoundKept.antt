@@ -24,12 +24,12 @@ use Rattle.ix_plain.specs.Values.{filling}
 use Rattle.ix_formed.specs.Additions.{Makes}
 use Rattle.ix_formed.proofs.NumberLists.{all_so, all_split}
 use Rattle.ix_formed.proofs.PlainItems.{makes_more, makes_then, makes_both}
-use Rattle.ix_kept_runs.specs.Along.{Setting}
-use Rattle.ix_kept_runs.specs.Running.{Ground, owner, in_scope, standing}
-use Rattle.ix_kept_runs.specs.Sound as sound
-use Rattle.ix_kept_runs.specs.Sound.{init_soundness}
-use Rattle.ix_kept_runs.specs.SoundStatements.{where_made, ran_at, used_at, declaring, local_init, declared_sound}
-use Rattle.ix_kept_runs.proofs.Scopes.{owner_more, slot_more, scope_low}
+use Rattle.ix_source.specs.Along.{Setting}
+use Rattle.ix_source.specs.Running.{Ground, owner, in_scope, standing}
+use Rattle.ix_source.specs.Sound as sound
+use Rattle.ix_source.specs.Sound.{init_soundness}
+use Rattle.ix_source.specs.SoundStatements.{where_made, ran_at, used_at, declaring, local_init, declared_sound}
+use Rattle.ix_source.proofs.Scopes.{owner_more, slot_more, scope_low}
 use Rattle.ix_guard.specs.Accesses as accesses
 use Rattle.ix_guard.specs.Accesses.{parts_of, init_parts, decl_parts, all_decl_parts}
 use Rattle.ix_guard.specs.Tests.{is_variable, same_variable}

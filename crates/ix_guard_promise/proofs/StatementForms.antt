@@ -9,12 +9,12 @@ use Rattle.ix_tree.specs.declared.expr.Expr.{Expr}
 use Rattle.ix_tree.specs.declared.expr.Init.{Init}
 use Rattle.ix_meaning.specs.declared.note.Meaning.{Meaning}
 use Rattle.ix_meaning.specs.declared.note.Meaning.TheVariants.{Local}
-use Rattle.ix_source_meaning.specs.Runs.{Action, ◌>>=◌, gives, stops, sees, assigns, with_held}
-use Rattle.ix_source_meaning.specs.Context.{Context, declared_at, type_declared}
-use Rattle.ix_source_meaning.specs.Values.{evaluation, initial, assign, without_value}
-use Rattle.ix_source_meaning.specs.Statements.{Completion, Normal, Breaks, Continues, Returns, Execution, behind, each, all_declare, normally, initially, declaration, declarations, count, ran, all_ran, chosen, behind_turn, Looping, head, turn, tested_first, tested_last, condition_of, returned, printed, plain}
-use Rattle.ix_guarded_text.specs.Bare.{bare_maybe as maybe}
-use Rattle.ix_guarded_text.specs.Moved.{Move, moved_span, moved_expr, moved_init, moved_decl}
+use Rattle.ix_source.specs.Runs.{Action, ◌>>=◌, gives, stops, sees, assigns, with_held}
+use Rattle.ix_source.specs.Context.{Context, declared_at, type_declared}
+use Rattle.ix_source.specs.Values.{evaluation, initial, assign, without_value}
+use Rattle.ix_source.specs.Statements.{Completion, Normal, Breaks, Continues, Returns, Execution, behind, each, all_declare, normally, initially, declaration, declarations, count, ran, all_ran, chosen, behind_turn, Looping, head, turn, tested_first, tested_last, condition_of, returned, printed, plain}
+use Rattle.ix_guard_text.specs.Bare.{bare_maybe as maybe}
+use Rattle.ix_guard_text.specs.Moved.{Move, moved_span, moved_expr, moved_init, moved_decl}
 use Rattle.ix_guard_promise.specs.Behind.{Shows, both_give, both_stop, both_cut, Follows, ContextFollows}
 use Rattle.ix_guard_promise.proofs.Following.{first_itself, shows_then, printed_both, equal_then, equal_gives}
 use Rattle.ix_guard_promise.proofs.ExpressionsFollow.{expression_keeps, initialiser_keeps}

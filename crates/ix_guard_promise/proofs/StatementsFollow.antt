@@ -11,22 +11,22 @@ use Rattle.ix_tree.specs.declared.stmt.Stmt.{Stmt}
 use Rattle.ix_tree.specs.declared.stmt.StmtKind.{StmtKind}
 use Rattle.ix_tree.specs.declared.stmt.StmtKind.TheVariants as s
 use Rattle.ix_core.specs.Machine.{Thrown}
-use Rattle.ix_source_meaning.specs.Runs.{Now, Result, Gives, Stops, Cuts, Action, ◌>>=◌, go_on, gives, stops}
-use Rattle.ix_source_meaning.specs.Context.{Context}
-use Rattle.ix_source_meaning.specs.Values.{evaluation}
-use Rattle.ix_source_meaning.specs.Statements.{Completion, Normal, Breaks, Continues, Returns, Execution, behind, each, all_declare, normally, ran, returned, plain, printed, or_nothing, execution}
-use Rattle.ix_source_meaning.proofs.Equations as equations
-use Rattle.ix_source_meaning.proofs.Equations.{kind_execution}
+use Rattle.ix_source.specs.Runs.{Now, Result, Gives, Stops, Cuts, Action, ◌>>=◌, go_on, gives, stops}
+use Rattle.ix_source.specs.Context.{Context}
+use Rattle.ix_source.specs.Values.{evaluation}
+use Rattle.ix_source.specs.Statements.{Completion, Normal, Breaks, Continues, Returns, Execution, behind, each, all_declare, normally, ran, returned, plain, printed, or_nothing, execution}
+use Rattle.ix_source.proofs.Equations as equations
+use Rattle.ix_source.proofs.Equations.{kind_execution}
 use Rattle.ix_formed.specs.Additions.{AllOf}
 use Rattle.ix_guard.specs.Accesses.{Access, parts_of, all_decl_parts}
 use Rattle.ix_guard.specs.Tests.{Site, Changes, Pair, pair_of, same_pair, is_variable, is_called, is_kept, is_guarded, is_tested, is_bound_error, same_variable}
 use Rattle.ix_guard.specs.Trees.{statement, tested_behind, expression_tested, declaration_tested, returning}
-use Rattle.ix_guarded_text.specs.Bare.{bare_maybe as maybe}
-use Rattle.ix_guarded_text.specs.Moved.{Move, moved_span, moved_name, moved_expr, moved_decl, moved_stmt}
-use Rattle.ix_guarded_text.specs.TestParts.{Parts, guard_of}
-use Rattle.ix_guarded_text.specs.GuardedNames.{IsMeant}
-use Rattle.ix_guarded_text.specs.GuardedPlaces as placed
-use Rattle.ix_guarded_text.specs.GuardedPlaces.{AreTests, Inner, Alone, InList}
+use Rattle.ix_guard_text.specs.Bare.{bare_maybe as maybe}
+use Rattle.ix_guard_text.specs.Moved.{Move, moved_span, moved_name, moved_expr, moved_decl, moved_stmt}
+use Rattle.ix_guard_text.specs.TestParts.{Parts, guard_of}
+use Rattle.ix_guard_text.specs.GuardedNames.{IsMeant}
+use Rattle.ix_guard_text.specs.GuardedPlaces as placed
+use Rattle.ix_guard_text.specs.GuardedPlaces.{AreTests, Inner, Alone, InList}
 use Rattle.ix_guard_promise.specs.Behind.{now_of, PrintedFirst, Behind, thrown, ContextFollows}
 use Rattle.ix_guard_promise.proofs.Following.{first_beside}
 use Rattle.ix_guard_promise.proofs.TestsStop.{Tests, passes, throws, test_declares, test_stops}

@@ -13,7 +13,7 @@ use Rattle.ix_tree.specs.declared.stmt.Stmt.{Stmt}
 use Rattle.ix_tree.specs.declared.stmt.StmtKind.{StmtKind-F}
 use Rattle.ix_tree.specs.declared.stmt.StmtKind.TheVariants as s
 use Rattle.ix_tree.proofs.FoldsOfForms as fold
-use Rattle.ix_guarded_text.specs.Bare.{bare_maybe}
+use Rattle.ix_guard_text.specs.Bare.{bare_maybe}
 use Rattle.ix_plain.specs.declared.body.Body.{Body}
 use Rattle.ix_plain.specs.Assigned.{assigns}
 use Rattle.ix_plain.specs.Scope.{type_at}
@@ -24,11 +24,11 @@ use Rattle.ix_formed.specs.Readable.{Statement, stmt_shape, is_part, or_part, ea
 use Rattle.ix_formed.specs.Written.{maybe_true, each_true}
 use Rattle.ix_formed.proofs.NumberLists.{all_so, all_joined}
 use Rattle.ix_formed.proofs.PlainItems.{makes_more, makes_then}
-use Rattle.ix_kept_runs.specs.Running.{Ground, standing}
-use Rattle.ix_kept_runs.specs.Sound.{soundness}
-use Rattle.ix_kept_runs.specs.SoundStatements as sound
-use Rattle.ix_kept_runs.specs.SoundStatements.{StatementSoundness, statement_soundness, where_made, used_at, ran_at, used_if}
-use Rattle.ix_kept_runs.proofs.SoundRuns.{running_is}
+use Rattle.ix_source.specs.Running.{Ground, standing}
+use Rattle.ix_source.specs.Sound.{soundness}
+use Rattle.ix_source.specs.SoundStatements as sound
+use Rattle.ix_source.specs.SoundStatements.{StatementSoundness, statement_soundness, where_made, used_at, ran_at, used_if}
+use Rattle.ix_source.proofs.SoundRuns.{running_is}
 use Rattle.ix_guard.specs.Accesses.{Access, parts_of, all_decl_parts, Parts as Read}
 use Rattle.ix_guard.specs.Tests.{Site, is_variable}
 use Rattle.ix_guard.specs.Trees.{statement, expression_tested, declaration_tested, returning, tested as tested_by}
@@ -36,8 +36,8 @@ use Rattle.ix_guard_promise.specs.Known.{Known, Nowhere, Unknown, Inside}
 use Rattle.ix_guard_promise.specs.Guards.{ends, breaks, continues, throws}
 use Rattle.ix_guard_promise.specs.Pieces.{IsElsewhere, Keeps}
 use Rattle.ix_guard_promise.proofs.Saying.{says_unknown}
-use Rattle.ix_guarded_text.specs.Moved as moved
-use Rattle.ix_guarded_text.specs.Moved.{Move, moved_span, moved_expr, moved_decl, moved_stmt}
+use Rattle.ix_guard_text.specs.Moved as moved
+use Rattle.ix_guard_text.specs.Moved.{Move, moved_span, moved_expr, moved_decl, moved_stmt}
 use Rattle.ix_guard_promise.specs.TestParts.{Parts}
 use Rattle.ix_guard_promise.specs.GuardedPlaces as placed
 use Rattle.ix_guard_promise.specs.GuardedPlaces.{AreTests, Inner, Alone, InList}
@@ -46,8 +46,7 @@ use Rattle.ix_guard_promise.specs.AtPlace.{IsOff, HasNone}
 use Rattle.ix_guard_promise.specs.KeptSlots.{Leaves, Appends}
 use Rattle.ix_guard_promise.specs.Outlines.{Outline, outline, outlines, everything}
 use Rattle.ix_guard_promise.specs.SourceGuards as source
-use Rattle.ix_guard_promise.specs.SourceGuards.{IsAmong, HasOnly, IsBehind, Guards}
-use Rattle.ix_guard_promise.specs.SourceGuards.{AreKept}
+use Rattle.ix_guard_promise.specs.SourceGuards.{IsAmong, HasOnly, IsBehind, Guards, AreKept}
 use Rattle.ix_guard_promise.specs.Laws.{AreInSlots, changes_of, Laws}
 use Rattle.ix_guard_promise.proofs.Growing.{with_sound, Grows, grows_none, grows_both, grows_more, grows_less, elsewhere_grows, keeps_grows, KeepsKnown, elsewhere_known, keeps_known}
 use Rattle.ix_guard_promise.proofs.Compounds.{IsFine, chosen_grows, while_grows, do_grows, for_grows, IsElse, ElseIf, KeepsIf, printed_grows, returned_grows, runs_grow, jump_grows}

@@ -4,9 +4,9 @@ use Rattle.ix_tree.specs.declared.expr.Expr.{Expr}
 use Rattle.ix_tree.specs.declared.stmt.Stmt.{Stmt, Stmt-F, ind-Stmt, map-Stmt, roll-Stmt, fold-roll-Stmt}
 use Rattle.ix_tree.specs.declared.stmt.StmtKind.{StmtKind, StmtKind-F, map-StmtKind, roll-StmtKind, fold-roll-StmtKind}
 use Rattle.ix_tree.proofs.FoldsOfForms as fold
-use Rattle.ix_guarded_text.specs.Bare.{bare_maybe}
-use Rattle.ix_guarded_text.specs.Moved as moved
-use Rattle.ix_guarded_text.specs.Moved.{Move, moved_span, moved_name, moved_expr, moved_decl, moved_stmt}
+use Rattle.ix_guard_text.specs.Bare.{bare_maybe}
+use Rattle.ix_guard_text.specs.Moved as moved
+use Rattle.ix_guard_text.specs.Moved.{Move, moved_span, moved_name, moved_expr, moved_decl, moved_stmt}
 use Rattle.ix_guard_promise.specs.AllAccesses.{AnyAccess, all, maybe, each_of, all_accesses}
 use Rattle.ix_guard_promise.specs.AtPlace as at_place
 use Rattle.ix_guard_promise.specs.AtPlace.{stmt_accesses}

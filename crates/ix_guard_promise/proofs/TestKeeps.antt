@@ -17,7 +17,7 @@ use Rattle.ix_guard_promise.proofs.GuardedPieces.{guard_then}
 use Rattle.ix_plain.specs.declared.body.Body.{Body}
 use Rattle.ix_plain.specs.Scope.{Site}
 use Rattle.ix_plain.specs.Statements.{scope_of}
-use Rattle.ix_guarded_text.specs.TestParts.{Parts}
+use Rattle.ix_guard_text.specs.TestParts.{Parts}
 use Rattle.ix_guard_promise.specs.TestTrees.{Means}
 use Rattle.ix_guard_promise.specs.TestForms.{Tests, Guards}
 

@@ -20,7 +20,7 @@ use Rattle.ix_plain.specs.Scope.{Scope, type_at}
 use Rattle.ix_plain.specs.Parts.{Asked, empty}
 use Rattle.ix_plain.specs.Values as values
 use Rattle.ix_plain.specs.Values.{Lowering, lowering}
-use Rattle.ix_guarded_text.specs.TestParts.{Parts, null_test, negative_test, high_test, condition_of}
+use Rattle.ix_guard_text.specs.TestParts.{Parts, null_test, negative_test, high_test, condition_of}
 use Rattle.ix_guard_promise.specs.TestTrees.{Means, parts_at}
 use Rattle.ix_guard_promise.specs.TestForms.{Asks}
 use Rattle.ix_guard_promise.proofs.PartsLower.{comparison_lowers, either_lowers, name_span, name_value, null_value, zero_value, length_value}

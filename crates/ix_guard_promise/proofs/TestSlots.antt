@@ -17,10 +17,10 @@ use Rattle.ix_tree.proofs.FoldsOfForms as fold
 use Rattle.ix_meaning.specs.declared.note.Meaning.{Meaning}
 use Rattle.ix_meaning.specs.declared.note.Meaning.TheVariants as meaning
 use Rattle.ix_plain.specs.Scope.{slot_of, meaning_at, type_at}
-use Rattle.ix_kept_runs.specs.Along.{Setting}
-use Rattle.ix_kept_runs.specs.Running.{Ground, owner, in_scope}
-use Rattle.ix_kept_runs.specs.Sound as sound
-use Rattle.ix_kept_runs.specs.Sound.{Soundness, soundness, used, both_used}
+use Rattle.ix_source.specs.Along.{Setting}
+use Rattle.ix_source.specs.Running.{Ground, owner, in_scope}
+use Rattle.ix_source.specs.Sound as sound
+use Rattle.ix_source.specs.Sound.{Soundness, soundness, used, both_used}
 use Rattle.ix_guard.specs.Tests.{is_variable}
 use Rattle.ix_guard.specs.Trees.{expression, named, either}
 use Rattle.ix_guard_promise.specs.TestParts.{Parts, null_test, negative_test, high_test, condition_of}

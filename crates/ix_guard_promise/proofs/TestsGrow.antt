@@ -18,11 +18,11 @@ use Rattle.ix_plain.specs.Statements as plain
 use Rattle.ix_plain.specs.Statements.{Running, scope_of, assigned_by, tested, branch}
 use Rattle.ix_formed.specs.Additions.{Makes, AllOf}
 use Rattle.ix_formed.proofs.PlainItems.{makes_more, makes_then}
-use Rattle.ix_kept_runs.specs.Running.{Ground, standing}
-use Rattle.ix_kept_runs.specs.Sound.{named}
-use Rattle.ix_kept_runs.specs.SoundStatements as sound
-use Rattle.ix_kept_runs.specs.SoundStatements.{StatementSoundness, statement_soundness, running_of, where_made, used_at, part_sound, part_if, each_sound}
-use Rattle.ix_kept_runs.proofs.SoundRuns.{running_is}
+use Rattle.ix_source.specs.Running.{Ground, standing}
+use Rattle.ix_source.specs.Sound.{named}
+use Rattle.ix_source.specs.SoundStatements as sound
+use Rattle.ix_source.specs.SoundStatements.{StatementSoundness, statement_soundness, running_of, where_made, used_at, part_sound, part_if, each_sound}
+use Rattle.ix_source.proofs.SoundRuns.{running_is}
 use Rattle.ix_guard.specs.Accesses.{Access}
 use Rattle.ix_guard.specs.Tests.{Site, is_variable}
 use Rattle.ix_guard_promise.specs.Known.{Known, Nowhere, Unknown, Inside}
@@ -32,7 +32,7 @@ use Rattle.ix_guard_promise.specs.TestTrees.{Means}
 use Rattle.ix_guard_promise.specs.TestForms.{Guards}
 use Rattle.ix_guard_promise.proofs.GuardLowers.{guard_lowers}
 use Rattle.ix_guard_promise.proofs.TestKeeps.{behind_guard, guard_elsewhere, guard_keeps, guard_no_loop}
-use Rattle.ix_guarded_text.specs.Moved.{Move}
+use Rattle.ix_guard_text.specs.Moved.{Move}
 use Rattle.ix_guard_promise.specs.TestParts.{Parts, condition_of, throw_of, guard_of}
 use Rattle.ix_guard_promise.specs.GuardedPlaces as placed
 use Rattle.ix_guard_promise.specs.GuardedPlaces.{AreTests}

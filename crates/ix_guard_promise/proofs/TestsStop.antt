@@ -17,18 +17,18 @@ use Rattle.ix_tree.specs.declared.stmt.StmtKind.TheVariants as s
 use Rattle.ix_meaning.specs.declared.note.Meaning.{Meaning}
 use Rattle.ix_meaning.specs.declared.note.Meaning.TheVariants as meaning
 use Rattle.ix_meaning.specs.Resolved.{Names}
-use Rattle.ix_source_meaning.specs.Runs.{Now, Result, Gives, Stops, Action, ◌>>=◌, go_on, gives, stops, held_by}
-use Rattle.ix_source_meaning.specs.Context.{Context, type_at, or_void}
-use Rattle.ix_source_meaning.specs.Values.{Evaluation, evaluation, named, name, selected, selection, constant, compared, asks, either, if_not, length_of}
-use Rattle.ix_source_meaning.specs.Statements.{Completion, Normal, Execution, execution, chosen}
-use Rattle.ix_source_meaning.proofs.Equations as equations
+use Rattle.ix_source.specs.Runs.{Now, Result, Gives, Stops, Action, ◌>>=◌, go_on, gives, stops, held_by}
+use Rattle.ix_source.specs.Context.{Context, type_at, or_void}
+use Rattle.ix_source.specs.Values.{Evaluation, evaluation, named, name, selected, selection, constant, compared, asks, either, if_not, length_of}
+use Rattle.ix_source.specs.Statements.{Completion, Normal, Execution, execution, chosen}
+use Rattle.ix_source.proofs.Equations as equations
 use Rattle.ix_guard.specs.Accesses.{Access}
 use Rattle.ix_guard.specs.Tests.{is_variable}
 use Rattle.ix_guard.specs.Trees as tree
 use Rattle.ix_guard.specs.Trees.{expression}
-use Rattle.ix_guarded_text.specs.Moved.{Move}
-use Rattle.ix_guarded_text.specs.TestParts.{Parts, null_test, negative_test, high_test, condition_of, throw_of, guard_of}
-use Rattle.ix_guarded_text.specs.GuardedNames.{IsMeant}
+use Rattle.ix_guard_text.specs.Moved.{Move}
+use Rattle.ix_guard_text.specs.TestParts.{Parts, null_test, negative_test, high_test, condition_of, throw_of, guard_of}
+use Rattle.ix_guard_text.specs.GuardedNames.{IsMeant}
 use Rattle.ix_guard_promise.specs.Follows.{IsOfGuard}
 
 -- How a test ends: it changes nothing, or its throw stops the run.

@@ -13,14 +13,14 @@ use Rattle.ix_meaning.specs.declared.members.Signature.{Signature}
 use Rattle.ix_meaning.specs.Classes.{first_or, first_class, class_named, parent_in_table, parents_by, parents}
 use Rattle.ix_meaning.specs.Members.{ClassOf, Callee, signature, methods_in, methods_from, methods, callable_if, is_method_named, own_method, or_nearest, nearest}
 use Rattle.ix_meaning.specs.Inheritance.{if_instance}
-use Rattle.ix_source_meaning.specs.Bodies.{Whole, overridden_by, stands_for, found_in, found}
-use Rattle.ix_guarded_text.specs.Bare.{nowhere, bare_maybe as maybe}
+use Rattle.ix_source.specs.Bodies.{Whole, overridden_by, stands_for, found_in, found}
+use Rattle.ix_guard_text.specs.Bare.{nowhere, bare_maybe as maybe}
 use Rattle.ix_guard.specs.Accesses.{Access}
 use Rattle.ix_guard.specs.Tests.{Site}
-use Rattle.ix_guarded_text.specs.Moved.{Move, moved_name}
-use Rattle.ix_guarded_text.specs.TestParts.{Parts}
-use Rattle.ix_guarded_text.specs.GuardedPlaces as placed
-use Rattle.ix_guarded_text.specs.GuardedPlaces.{Each, PlacedMethod, PlacedMember, PlacedClass}
+use Rattle.ix_guard_text.specs.Moved.{Move, moved_name}
+use Rattle.ix_guard_text.specs.TestParts.{Parts}
+use Rattle.ix_guard_text.specs.GuardedPlaces as placed
+use Rattle.ix_guard_text.specs.GuardedPlaces.{Each, PlacedMethod, PlacedMember, PlacedClass}
 
 -- ---- what overriding asks of a method
 

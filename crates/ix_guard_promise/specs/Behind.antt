@@ -2,11 +2,11 @@
 use Rattle.std.specs.Prelude.{◌≡◌, ℕ, List}
 use Rattle.ix_core.specs.Heap.{Held}
 use Rattle.ix_core.specs.Machine.{Ending}
-use Rattle.ix_source_meaning.specs.Context.{Context, Calls}
-use Rattle.ix_source_meaning.specs.Runs.{Now, Result, Gives, Stops, Cuts, Action}
-use Rattle.ix_source_meaning.specs.Values.{Target, Variable, FieldOf, Cell}
-use Rattle.ix_guarded_text.specs.Moved.{Move}
-use Rattle.ix_guarded_text.specs.GuardedNames.{SaysMoved}
+use Rattle.ix_source.specs.Context.{Context, Calls}
+use Rattle.ix_source.specs.Runs.{Now, Result, Gives, Stops, Cuts, Action}
+use Rattle.ix_source.specs.Values.{Target, Variable, FieldOf, Cell}
+use Rattle.ix_guard_text.specs.Moved.{Move}
+use Rattle.ix_guard_text.specs.GuardedNames.{SaysMoved}
 use Rattle.ix_guard_promise.specs.Follows.{printed, SameEnding, IsOfGuard, IsFirst}
 
 -- Two runs have come to the same, but for the places of what was seen.

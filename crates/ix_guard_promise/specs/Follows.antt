@@ -3,9 +3,9 @@ use Rattle.std.specs.Prelude.{◌≡◌, List, [], ◌∷◌, ◌++◌, Some, No
 use Rattle.ix_core.specs.Heap.{Held}
 use Rattle.ix_core.specs.Machine.{Ending, Ended, Outside, Negative, NullUsed, ZeroDivisor, Thrown, HeapFull, FrameFull}
 use Rattle.ix_core.specs.Traces.{Observation, Printed, Accessed}
-use Rattle.ix_source_meaning.specs.Source.{Shown}
-use Rattle.ix_guarded_text.specs.Moved.{Move}
-use Rattle.ix_guarded_text.specs.TestParts.{IsNew}
+use Rattle.ix_source.specs.Source.{Shown}
+use Rattle.ix_guard_text.specs.Moved.{Move}
+use Rattle.ix_guard_text.specs.TestParts.{IsNew}
 
 -- the values that are printed, first to last
 abbrev pub printed : List Observation → List Held

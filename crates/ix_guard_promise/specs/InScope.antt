@@ -9,7 +9,7 @@ use Rattle.ix_plain.specs.declared.body.Body.{Body}
 use Rattle.ix_plain.specs.Scope.{slot_of}
 use Rattle.ix_plain.specs.Statements.{scope_of}
 use Rattle.ix_formed.specs.Additions.{AllOf}
-use Rattle.ix_kept_runs.specs.Running.{Ground, in_scope}
+use Rattle.ix_source.specs.Running.{Ground, in_scope}
 use Rattle.ix_guard.specs.Tests.{same_variable}
 use Rattle.ix_guard_promise.specs.AllAccesses.{AnyAccess}
 

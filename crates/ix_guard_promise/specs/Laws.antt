@@ -19,14 +19,14 @@ use Rattle.ix_plain.specs.Statements.{scope_for, declarations}
 use Rattle.ix_formed.specs.Additions.{Makes}
 use Rattle.ix_formed.specs.Readable.{is_readable_expr, is_readable_init, is_readable_decl, is_readable_stmt}
 use Rattle.ix_formed.specs.Written.{each_true}
-use Rattle.ix_kept_runs.specs.Along.{Setting}
-use Rattle.ix_kept_runs.specs.Running.{Ground, in_scope}
-use Rattle.ix_kept_runs.specs.Sound.{named}
-use Rattle.ix_kept_runs.specs.SoundStatements.{ran_at, declared_sound}
+use Rattle.ix_source.specs.Along.{Setting}
+use Rattle.ix_source.specs.Running.{Ground, in_scope}
+use Rattle.ix_source.specs.Sound.{named}
+use Rattle.ix_source.specs.SoundStatements.{ran_at, declared_sound}
 use Rattle.ix_guard.specs.Accesses.{Access, Parts, parts_of, all_decl_parts}
 use Rattle.ix_guard.specs.Tests.{Site, Changes}
 use Rattle.ix_guard_promise.specs.Pieces.{IsElsewhere, Keeps}
-use Rattle.ix_guarded_text.specs.Moved.{Move, moved_span, moved_expr, moved_init, moved_decl, moved_stmt}
+use Rattle.ix_guard_text.specs.Moved.{Move, moved_span, moved_expr, moved_init, moved_decl, moved_stmt}
 use Rattle.ix_guard_promise.specs.AllAccesses.{all_accesses, init_accesses, decl_accesses, each_of}
 use Rattle.ix_guard_promise.specs.AtPlace.{HasNone}
 use Rattle.ix_guard_promise.specs.KeptSlots.{Leaves, LeavesAsked, Appends}

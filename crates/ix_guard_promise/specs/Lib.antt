@@ -40,10 +40,9 @@ pub mod SourceAccesses
 pub mod StandingIndices
 -- Passed on from ix_check.
 pub use Rattle.ix_check.specs.MethodErrors
--- Passed on from ix_guarding.
-pub use Rattle.ix_guarding.specs.Guarding
--- Passed on from ix_guarded_text.
-pub use Rattle.ix_guarded_text.specs.TestParts
-pub use Rattle.ix_guarded_text.specs.GuardedPlaces
-pub use Rattle.ix_guarded_text.specs.GuardedNames
-pub use Rattle.ix_guarded_text.specs.Interleaved
+-- Passed on from ix_guard_text.
+pub use Rattle.ix_guard_text.specs.Guarding
+pub use Rattle.ix_guard_text.specs.TestParts
+pub use Rattle.ix_guard_text.specs.GuardedPlaces
+pub use Rattle.ix_guard_text.specs.GuardedNames
+pub use Rattle.ix_guard_text.specs.Interleaved

@@ -12,17 +12,17 @@ use Rattle.ix_grammar.specs.Refusals.{HasTree}
 use Rattle.ix_meaning.specs.Resolved.{Accepts, names}
 use Rattle.ix_plain.specs.Program.{program as program_of}
 use Rattle.ix_formed.specs.Additions.{AllOf}
-use Rattle.ix_source_meaning.specs.Source.{source}
+use Rattle.ix_source.specs.Source.{source}
 use Rattle.ix_guard_promise.specs.MethodErrors.{IsError}
 use Rattle.ix_guard_promise.specs.BoundErrors.{IsOfBounds}
 use Rattle.ix_guard.specs.Accesses.{Access}
 use Rattle.ix_guard.specs.GuardedAccesses.{guarded_accesses}
 use Rattle.ix_guard.specs.Guards.{source_insertions}
-use Rattle.ix_guarding.specs.Inserted.{added}
-use Rattle.ix_guarded_text.specs.Moved.{Move, moved_span}
+use Rattle.ix_guard_text.specs.Inserted.{added}
+use Rattle.ix_guard_text.specs.Moved.{Move, moved_span}
 use Rattle.ix_guard_promise.specs.Interleaved.{moving}
 use Rattle.ix_guard_promise.specs.Follows.{FollowsRun}
-use Rattle.ix_guarding.specs.Guarding.{IsGuarded}
+use Rattle.ix_guard_text.specs.Guarding.{IsGuarded}
 
 -- The bytes have this tree.
 pub record IsTreeOf (bytes : List ℕ) (unit : Source) : Type 0 where

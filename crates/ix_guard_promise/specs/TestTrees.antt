@@ -7,7 +7,7 @@ use Rattle.ix_meaning.specs.declared.note.Meaning.TheVariants.{LengthOf}
 use Rattle.ix_guard.specs.Accesses.{Access}
 use Rattle.ix_guard.specs.Tests.{is_variable}
 use Rattle.ix_guard.specs.Trees.{ident}
-use Rattle.ix_guarded_text.specs.TestParts.{Parts}
+use Rattle.ix_guard_text.specs.TestParts.{Parts}
 use Rattle.ix_plain.specs.Scope.{Scope, slot_of, meaning_at, type_at}
 
 -- the parts of the test of an access, as it stands in a guarded tree

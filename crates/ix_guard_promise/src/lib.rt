@@ -12,10 +12,10 @@
 //! - `FollowsRun` of `specs/Follows`, what a run of a guarded text shows is what the run of its source shows, or as much of it as was printed before a guard threw, for every
 //!   method, all inputs and any number of turns and nested calls.
 //!
-//! They stand on `ix_guard` for which accesses are guarded and which are tested, on `ix_grammar`, `ix_tree` and `ix_formed` for where the parts of a source stand, on `ix_guarded_text` for
-//! where they stand in the guarded text and what its names mean, on the plain form of `ix_plain`, on the tests of soundness in `ix_kept_runs` and that names of an accepted source are sound,
-//! on `ix_source_meaning` for what a source means, on `ix_check` for the rules and the errors of a method, on `ix_flow` for what a flow is and on `ix_facts` for what a test tells.
+//! They stand on `ix_guard` for which accesses are guarded and which are tested, on `ix_grammar`, `ix_tree` and `ix_formed` for where the parts of a source stand, on `ix_guard_text` for
+//! where they stand in the guarded text and what its names mean, on the plain form of `ix_plain`, on the tests of soundness in `ix_source` and that names of an accepted source are sound,
+//! on `ix_source` for what a source means, on `ix_check` for the rules and the errors of a method, on `ix_flow` for what a flow is and on `ix_facts` for what a test tells.
 //! They never look at how a text is written or judged, at how names are found, at tokens, or at least labels.
 #![tactic(auto)]
 
-pub use ix_guarding::guarded;
+pub use ix_guard_text::guarded;

@@ -3,7 +3,7 @@
 //! What goes in: a program and one of its methods. What comes out: its landmarks.
 //! The contract: `AreLandmarksOf` of `ix_facts`: the ints at most 1 away from a number that the method's text or a declaration that it uses speaks of,
 //! -1, 0, 1 and the ends of the int range, in ascending order.
-//! It stands on `ix_classes` for the fields of a class, on `ix_facts` for what a landmark is.
+//! It stands on `ix_core` for the fields of a class, on `ix_facts` for what a landmark is.
 //! It never looks at facts.
 #![tactic(auto)]
 

@@ -7,8 +7,7 @@ ghost use Rattle.ix_landmarks.specs.Items.{AddsNear, IsAscending};
 
 use crate::bodies::push_block;
 use crate::numbers::{push_both, push_declared, push_fields, push_locals};
-use ix_classes::instance_fields;
-use ix_core::{Method, Program};
+use ix_core::{Method, Program, instance_fields};
 use ix_facts::Landmarks;
 use ix_text::List;
 use std::alloc::{AllocError, Global};

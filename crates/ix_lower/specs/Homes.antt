@@ -6,8 +6,8 @@ use Rattle.ix_meaning.specs.Limits.{Passed}
 use Rattle.ix_plain.specs.Counts.{accesses}
 use Rattle.ix_plain.specs.Members.{classes_from, fields_from, first_numbers}
 use Rattle.ix_plain.specs.Parts.{◌>>=◌}
-use Rattle.ix_table.specs.Numbered.{shown}
-use Rattle.ix_world.specs.World.{shown as shown_world}
+use Rattle.ix_symbols.specs.Numbered.{shown}
+use Rattle.ix_class_members.specs.World.{shown as shown_world}
 use Rattle.ix_plain.specs.Program as spec
 use Rattle.ix_lower.specs.declared.home.Tables.{Tables}
 use Rattle.ix_lower.specs.declared.home.Home.{Home}

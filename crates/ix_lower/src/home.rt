@@ -1,10 +1,10 @@
 //! What a method stands in.
 
+use ix_class_members::World;
 use ix_plain::Head;
-use ix_table::Table;
+use ix_symbols::Table;
 use ix_text::Text;
 use ix_tree::Member;
-use ix_world::World;
 
 /// What all methods stand in.
 #[derive(Clone, Copy)]

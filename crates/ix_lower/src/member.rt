@@ -1,19 +1,18 @@
 //! Parameters, fields and classes.
 ghost use Rattle.std.specs.Prelude.{◌≡◌, ◌++◌, ◌∷◌, [], IfOk, OnOk};
-ghost use Rattle.ix_table.specs.Numbered.{shown};
-ghost use Rattle.ix_world.specs.World.{shown as shown_world};
+ghost use Rattle.ix_symbols.specs.Numbered.{shown};
+ghost use Rattle.ix_class_members.specs.World.{shown as shown_world};
 ghost use Rattle.ix_plain.specs.Members as spec;
 ghost use Rattle.ix_plain.specs.Scope as scope;
 
 use crate::number::{has_constructor, next_behind, next_field};
+use ix_class_members::World;
 use ix_core::{Claim, Class, Field, Local, Type_};
-use ix_lower_bodies::{copied_claims, copied_text, one_more};
+use ix_lower_statements::{copied_claims, copied_text, one_more};
 use ix_plain::Next;
-use ix_table::Table;
+use ix_symbols::{Table, copied};
 use ix_text::{List, Span};
 use ix_tree::{ClassDecl, LocalDecl, Member};
-use ix_types::copied;
-use ix_world::World;
 use std::alloc::{AllocError, Global};
 
 /// The type of what is declared at that place.

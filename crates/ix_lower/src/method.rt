@@ -6,8 +6,8 @@ ghost use Rattle.ix_meaning.specs.declared.note.Which.{Which};
 ghost use Rattle.ix_plain.specs.declared.made.Stop.TheVariants as stop;
 ghost use Rattle.ix_plain.specs.Members.{is_static};
 ghost use Rattle.ix_plain.specs.Program as spec;
-ghost use Rattle.ix_lower_bodies.specs.Shown.{shown_site};
-ghost use Rattle.ix_world.specs.World.{callee, shown as shown_world};
+ghost use Rattle.ix_lower_statements.specs.Shown.{shown_site};
+ghost use Rattle.ix_class_members.specs.World.{callee, shown as shown_world};
 ghost use Rattle.ix_lower.specs.Homes.{shown_tables, shown_home};
 
 use crate::constructor::begin_constructor;
@@ -17,13 +17,13 @@ use crate::member::{
 };
 use crate::number::is_static;
 use crate::post::{posts, some_conditional};
+use ix_class_members::{Called, World};
 use ix_core::{Block, Method, Type_};
-use ix_lower_bodies::{MOST_LOOPS, Site, copied_text, count_operations, each, empty, loops};
+use ix_lower_statements::{MOST_LOOPS, Site, copied_text, count_operations, each, empty, loops};
 use ix_meaning::Which;
 use ix_plain::{Body, Made, Stop};
 use ix_text::{List, Span};
 use ix_tree::{Expr, MethodDecl};
-use ix_world::{Called, World};
 use std::alloc::{AllocError, Global};
 
 /// How many operations a method may have.

@@ -3,7 +3,7 @@ ghost use Rattle.std.specs.Prelude.{◌≡◌, [], IfOk, OnOk};
 ghost use Rattle.ix_meaning.specs.Source as meaning;
 ghost use Rattle.ix_plain.specs.Members as spec;
 
-use ix_lower_bodies::one_more;
+use ix_lower_statements::one_more;
 use ix_plain::{Head, Next};
 use ix_text::List;
 use ix_tree::{ClassDecl, LocalDecl, Member, MethodDecl};

@@ -4,16 +4,16 @@ ghost use Rattle.ix_core.specs.Posts as core;
 ghost use Rattle.ix_meaning.specs.Inheritance.{if_instance};
 ghost use Rattle.ix_plain.specs.Program as spec;
 ghost use Rattle.ix_plain.specs.Scope as scope;
-ghost use Rattle.ix_table.specs.Numbered.{shown};
-ghost use Rattle.ix_world.specs.World.{callee};
+ghost use Rattle.ix_symbols.specs.Numbered.{shown};
+ghost use Rattle.ix_class_members.specs.World.{callee};
 ghost use Rattle.ix_lower.specs.Homes.{shown_tables};
 
 use crate::home::Tables;
+use ix_class_members::Called;
 use ix_core::Post;
-use ix_table::Table;
+use ix_symbols::Table;
 use ix_text::{List, Span};
 use ix_tree::MethodDecl;
-use ix_world::Called;
 use std::alloc::{AllocError, Global};
 
 /// Whether one of them speaks of one answer.

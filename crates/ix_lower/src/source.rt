@@ -4,7 +4,7 @@ ghost use Rattle.ix_core.specs.Formed.{Formed};
 ghost use Rattle.ix_meaning.specs.declared.note.Which.{Which};
 ghost use Rattle.ix_meaning.specs.Resolved.{Accepts, names};
 ghost use Rattle.ix_meaning.specs.Source.{members_in};
-ghost use Rattle.ix_table.specs.Numbered.{shown};
+ghost use Rattle.ix_symbols.specs.Numbered.{shown};
 ghost use Rattle.ix_plain.specs.declared.made.Stop.TheVariants as stop;
 ghost use Rattle.ix_plain.specs.declared.numbers.Next.{Next};
 ghost use Rattle.ix_plain.specs.Counts as counts;
@@ -17,14 +17,14 @@ use crate::home::{Home, Tables};
 use crate::member::{classes, fields};
 use crate::method::{default_constructor, written};
 use crate::number::{constructors, first_numbers, has_constructor, heads, next_behind};
+use ix_class_members::world_of;
 use ix_core::{Method, Program};
-use ix_lower_bodies::accesses;
+use ix_lower_statements::accesses;
 use ix_meaning::Which;
 use ix_plain::{Next, Stop};
-use ix_table::Table;
+use ix_symbols::Table;
 use ix_text::{List, Span};
 use ix_tree::{ClassDecl, Member, MethodDecl, Unit};
-use ix_world::world_of;
 use std::alloc::{AllocError, Global};
 
 /// Why a source has no plain form.

@@ -9,11 +9,11 @@ use Rattle.ix_core.specs.declared.claim.Type_.{Type_}
 use Rattle.ix_core.specs.declared.program.Method.{Method}
 use Rattle.ix_core.specs.declared.program.Program.{Program}
 use Rattle.ix_core.specs.Tables.{method_at, no_method}
-use Rattle.ix_inputs.specs.Words.{AreValues, IsFirstWrong}
+use Rattle.ix_machine_inputs.specs.Words.{AreValues, IsFirstWrong}
 use Rattle.ix_machine.specs.Starts.{types_at}
 use Rattle.ix_core.specs.Heap.{Held, Num, Heap, cells_used}
 use Rattle.ix_core.specs.Safe.{Input, Whole, Flag, Ints, input_heap, input_values}
-use Rattle.ix_inputs.proofs.Parameters.{at_place}
+use Rattle.ix_machine_inputs.proofs.Parameters.{at_place}
 
 used_more : (heap more : Heap) → cells_used (heap ++ more) ≡ cells_used heap + cells_used more
 used_more [] more = omega arith

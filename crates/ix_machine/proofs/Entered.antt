@@ -12,8 +12,8 @@ use Rattle.ix_core.specs.Inputs.{first_unmet}
 use Rattle.ix_core.specs.Safe.{Input, HaveTypes, Begins}
 use Rattle.ix_core.specs.Tables.{method_at, no_method}
 use Rattle.ix_core.proofs.MetInputs.{none_unmet}
-use Rattle.ix_inputs.specs.Entries.{is_entry}
-use Rattle.ix_inputs.specs.Words.{AreValues}
+use Rattle.ix_machine_inputs.specs.Entries.{is_entry}
+use Rattle.ix_machine_inputs.specs.Words.{AreValues}
 use Rattle.ix_machine.specs.Starts.{Given}
 
 of_some : (test : Bool) (place number : ℕ) → cond test (Some place) None ≡ Some number → (test ≡ true) × (place ≡ number)

@@ -11,11 +11,11 @@ use Rattle.ix_core.specs.Machine.{Limits, Go, step_tasks}
 use Rattle.ix_core.specs.Tables.{Tables}
 use Rattle.ix_core.specs.Tasks.{Tasks, Empty, Ask, Head, Again, Out, code_then}
 use Rattle.ix_core.proofs.Translated.{item_code-If, item_code-Loop}
-use Rattle.ix_frames.specs.Places.{loop_tasks}
-use Rattle.ix_frames.specs.declared.places.Place.TheVariants as place
-use Rattle.ix_frames.specs.declared.room.Room.{Room}
-use Rattle.ix_frames.specs.Room.{code_above, code_values}
-use Rattle.ix_frames.specs.Fits.{IsFree, IsFreeFor}
+use Rattle.ix_machine_state.specs.Places.{loop_tasks}
+use Rattle.ix_machine_state.specs.declared.places.Place.TheVariants as place
+use Rattle.ix_machine_state.specs.declared.room.Room.{Room}
+use Rattle.ix_machine_state.specs.Room.{code_above, code_values}
+use Rattle.ix_machine_state.specs.Fits.{IsFree, IsFreeFor}
 
 pub free_for : {below : ℕ} {room : Room} {items : Bor (List Item)} {code : Code} → IsFree below room (place.Rest items) → items_code items.now ≡ code → IsFreeFor below room code
 free_for {below} {room} {items} {code} free is = record {

@@ -6,9 +6,9 @@ use Rattle.ix_core.specs.Heap.{Held, Heap}
 use Rattle.ix_core.specs.Machine.{Limits, State, Frame, Waiting, Ending, Effect, Done, Wrapped, with_limits, frame, operate, effect_then, moved, event_from, event_values, step, step_event, run, printed, printed_from, Event}
 use Rattle.ix_core.specs.Tables.{Tables}
 use Rattle.ix_core.specs.Tasks.{Tasks, code_then}
-use Rattle.ix_frames.specs.declared.room.Room.{Room}
-use Rattle.ix_frames.specs.Fits.{IsFreeFor}
-use Rattle.ix_frames.specs.Room.{code_above, code_values}
+use Rattle.ix_machine_state.specs.declared.room.Room.{Room}
+use Rattle.ix_machine_state.specs.Fits.{IsFreeFor}
+use Rattle.ix_machine_state.specs.Room.{code_above, code_values}
 use Rattle.ix_machine.specs.Quiet.{LeadsTo}
 use Rattle.ix_machine.specs.Turns.{state_with}
 use Rattle.ix_machine.proofs.ManySteps.{run_more, printed_more}

@@ -9,3 +9,4 @@ pub mod ManySteps
 pub mod Leading
 mod Accesses
 mod CallStops
+pub mod FieldRows

@@ -10,8 +10,8 @@ use Rattle.ix_core.specs.Heap.{Held, value_at}
 use Rattle.ix_core.specs.Machine.{Frame, frame, slots_with, CallKind, Static, Instance, New, Super, receiver}
 use Rattle.ix_core.specs.Tables.{body_of, no_method}
 use Rattle.ix_core.specs.Tasks.{Empty, code_then}
-use Rattle.ix_frames.specs.declared.room.Room.{Room}
-use Rattle.ix_frames.specs.Room.{code_above, code_values}
+use Rattle.ix_machine_state.specs.declared.room.Room.{Room}
+use Rattle.ix_machine_state.specs.Room.{code_above, code_values}
 use Rattle.ix_machine.specs.Programs.{places_of, values_of}
 
 pub record Fits (room : Room) (method : Method) : Type 0 where

@@ -6,9 +6,9 @@ use Rattle.ix_core.specs.Inputs.{Unmet, first_unmet}
 use Rattle.ix_core.specs.Machine.{State}
 use Rattle.ix_core.specs.Safe.{Input, input_heap, start}
 use Rattle.ix_core.specs.Tables.{method_at}
-use Rattle.ix_inputs.specs.Entries.{entry_of}
-use Rattle.ix_inputs.specs.Words.{AreValues, IsFirstWrong}
-use Rattle.ix_inputs.proofs.OneValue.{one_list, as_many_words, none_wrong, one_wrong}
+use Rattle.ix_machine_inputs.specs.Entries.{entry_of}
+use Rattle.ix_machine_inputs.specs.Words.{AreValues, IsFirstWrong}
+use Rattle.ix_machine_inputs.proofs.OneValue.{one_list, as_many_words, none_wrong, one_wrong}
 use Rattle.ix_machine.specs.declared.start.StartError.{StartError}
 use Rattle.ix_machine.specs.declared.start.StartError.TheVariants as error
 use Rattle.ix_machine.specs.Starts.{Starts, Given, types_at, refusal_of, no_entry, wrong_count, wrong_kind, not_met, too_large, begins}

@@ -11,7 +11,7 @@ use Rattle.ix_core.specs.Machine.{State, frame, slots_with}
 use Rattle.ix_core.specs.Safe.{Input, Whole, Flag, Ints, input_heap, input_values, start}
 use Rattle.ix_core.specs.Tables.{method_at, body_of}
 use Rattle.ix_core.specs.Tasks.{Empty, code_then}
-use Rattle.ix_inputs.specs.Words.{AreValues}
+use Rattle.ix_machine_inputs.specs.Words.{AreValues}
 use Rattle.ix_machine.specs.declared.start.StartError.{StartError}
 use Rattle.ix_machine.specs.declared.start.StartError.TheVariants as error
 use Rattle.ix_machine.specs.Starts.{Given, Starts, Refuses, types_at, refusal_of, not_met, too_large, begins}

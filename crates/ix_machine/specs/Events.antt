@@ -1,6 +1,6 @@
 -- What a step tells, as the model says it.
 use Rattle.ix_core.specs.Machine as model
-use Rattle.ix_heap.specs.Rows.{held_of}
+use Rattle.ix_machine_state.specs.Rows.{held_of}
 use Rattle.ix_machine.specs.declared.machine.Event.{Event}
 use Rattle.ix_machine.specs.declared.machine.Event.TheVariants as event
 

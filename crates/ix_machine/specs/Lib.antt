@@ -7,3 +7,7 @@ pub mod Events
 pub mod Quiet
 pub mod Starts
 pub mod Accesses
+pub mod Rows
+pub mod Effects
+pub mod Calls
+pub mod Kinds

@@ -1,14 +1,14 @@
 -- What a step of a frame did, as the model says it.
 use Rattle.std.specs.Prelude.{◌≡◌, ◌≤◌, ◌+◌, ℕ, List, length}
-use Rattle.ix_frames.specs.Fits.{IsFree}
-use Rattle.ix_frames.specs.declared.places.Place.TheVariants as place_
-use Rattle.ix_frames.specs.declared.room.Room.{Room}
+use Rattle.ix_machine_state.specs.Fits.{IsFree}
+use Rattle.ix_machine_state.specs.declared.places.Place.TheVariants as place_
+use Rattle.ix_machine_state.specs.declared.room.Room.{Room}
 use Rattle.ix_core.specs.Code.{items_code}
 use Rattle.ix_core.specs.Heap.{Held, Heap}
 use Rattle.ix_core.specs.Machine as model
 use Rattle.ix_core.specs.Tasks.{Tasks, code_then}
-use Rattle.ix_heap.specs.Rows.{held_of}
-use Rattle.ix_operations.specs.Kinds.{kind_of}
+use Rattle.ix_machine_state.specs.Rows.{held_of}
+use Rattle.ix_machine.specs.Kinds.{kind_of}
 use Rattle.ix_machine.specs.declared.task.Move.{Move}
 use Rattle.ix_machine.specs.declared.task.Move.TheVariants as move
 

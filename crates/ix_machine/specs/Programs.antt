@@ -2,7 +2,7 @@
 use Rattle.std.specs.Prelude.{ℕ, ◌+◌, max, List, [], ◌∷◌, length}
 use Rattle.ix_core.specs.declared.program.Method.{Method}
 use Rattle.ix_core.specs.Tables.{body_of}
-use Rattle.ix_frames.specs.Room.{code_above, code_values}
+use Rattle.ix_machine_state.specs.Room.{code_above, code_values}
 
 -- the most places that are open in a frame
 abbrev pub places_of : List Method → ℕ

@@ -7,8 +7,8 @@ use Rattle.ix_core.specs.Inputs.{Unmet, first_unmet}
 use Rattle.ix_core.specs.Machine.{State}
 use Rattle.ix_core.specs.Safe.{Input, input_heap, Begins, start}
 use Rattle.ix_core.specs.Tables.{method_at}
-use Rattle.ix_inputs.specs.Entries.{entry_of}
-use Rattle.ix_inputs.specs.Words.{AreValues, IsFirstWrong}
+use Rattle.ix_machine_inputs.specs.Entries.{entry_of}
+use Rattle.ix_machine_inputs.specs.Words.{AreValues, IsFirstWrong}
 use Rattle.ix_machine.specs.declared.start.StartError.{StartError}
 use Rattle.ix_machine.specs.declared.start.StartError.TheVariants as error
 

@@ -1,9 +1,9 @@
 -- The state of a machine.
 use Rattle.std.specs.Prelude.{option_map}
 use Rattle.ix_core.specs.Machine as model
-use Rattle.ix_heap.specs.View.{heap_of}
-use Rattle.ix_frames.specs.Frames.{frame_of}
-use Rattle.ix_frames.specs.Waiting.{waits_of}
+use Rattle.ix_machine_state.specs.View.{heap_of}
+use Rattle.ix_machine_state.specs.Frames.{frame_of}
+use Rattle.ix_machine_state.specs.Waiting.{waits_of}
 use Rattle.ix_machine.specs.declared.machine.Machine.{Machine}
 
 abbrev pub state_of : Machine → model.State

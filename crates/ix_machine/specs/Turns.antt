@@ -2,9 +2,9 @@
 use Rattle.std.specs.Prelude.{Bool, true, List, None}
 use Rattle.ix_core.specs.Heap.{Heap}
 use Rattle.ix_core.specs.Machine as model
-use Rattle.ix_heap.specs.Rows.{held_of}
-use Rattle.ix_operations.specs.declared.operations.Done.{Done}
-use Rattle.ix_operations.specs.declared.operations.Done.TheVariants as done
+use Rattle.ix_machine_state.specs.Rows.{held_of}
+use Rattle.ix_machine.specs.declared.operations.Done.{Done}
+use Rattle.ix_machine.specs.declared.operations.Done.TheVariants as done
 
 -- a state that has not ended
 abbrev pub state_with : model.Frame → List model.Waiting → Heap → Bool → model.State

@@ -5,14 +5,13 @@ ghost use Rattle.ix_core.specs.Heap as cells;
 ghost use Rattle.ix_core.specs.Heap.{value_at};
 ghost use Rattle.ix_core.specs.Machine.{int_at};
 ghost use Rattle.ix_core.specs.Traces as trace;
-ghost use Rattle.ix_frames.specs.Frames.{slots_of, frame_of};
-ghost use Rattle.ix_heap.specs.View.{heap_of};
+ghost use Rattle.ix_machine_state.specs.Frames.{slots_of, frame_of};
+ghost use Rattle.ix_machine_state.specs.View.{heap_of};
 ghost use Rattle.ix_machine.specs.Accesses.{access_of, HasSize, IsNoOp, IsOp};
 
 use crate::task::int_of;
 use ix_core::{Item, Op, OpKind};
-use ix_frames::{Frame, Place};
-use ix_heap::{Heap, Held};
+use ix_machine_state::{Frame, Heap, Held, Place};
 
 /// A cell of an array that an operation asks for: the index, the array's length, and the place, which is where the index starts.
 #[derive(Clone, Copy)]

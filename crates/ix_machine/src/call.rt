@@ -7,21 +7,19 @@ ghost use Rattle.ix_core.specs.Machine.{with_limits, is_past, slots_with, call_v
 ghost use Rattle.ix_core.specs.Tables.{tables_of};
 ghost use Rattle.ix_core.specs.Tasks as tasks;
 ghost use Rattle.ix_core.specs.Tasks.{Tasks, code_then};
-ghost use Rattle.ix_heap.specs.View.{heap_of};
-ghost use Rattle.ix_frames.specs.declared.places.Place.TheVariants as place;
-ghost use Rattle.ix_frames.specs.Fits.{IsFree};
-ghost use Rattle.ix_frames.specs.Frames.{slots_of, frame_of};
-ghost use Rattle.ix_frames.specs.Places.{tasks_open};
-ghost use Rattle.ix_frames.specs.Waiting.{waits_of, HasRoom};
-ghost use Rattle.ix_operations.specs.Kinds.{kind_of};
+ghost use Rattle.ix_machine_state.specs.View.{heap_of};
+ghost use Rattle.ix_machine_state.specs.declared.places.Place.TheVariants as place;
+ghost use Rattle.ix_machine_state.specs.Fits.{IsFree};
+ghost use Rattle.ix_machine_state.specs.Frames.{slots_of, frame_of};
+ghost use Rattle.ix_machine_state.specs.Places.{tasks_open};
+ghost use Rattle.ix_machine_state.specs.Waiting.{waits_of, HasRoom};
+ghost use Rattle.ix_machine.specs.Kinds.{kind_of};
 ghost use Rattle.ix_machine.specs.Programs.{places_of, values_of};
 
+use crate::calls::{Call, body_in, callee, lacks_cells, make_object, receiver, slots_in, target};
+use crate::rows::Rows;
 use ix_core::{Item, Outcome};
-use ix_frames::{Frame, Place, Pool};
-use ix_heap::Heap;
-use ix_operations::{
-    Call, Rows, body_in, callee, lacks_cells, make_object, receiver, slots_in, target,
-};
+use ix_machine_state::{Frame, Heap, Place, Pool};
 
 /// The method that a call runs, or why it stops the run: null is tested first, then cells, then frames.
 pub fn method_of<'p>(

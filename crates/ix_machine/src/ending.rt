@@ -4,16 +4,16 @@ ghost use Rattle.std.specs.Prelude.{◌≡◌, ◌∷◌, ◌++◌, List, length
 ghost use Rattle.ix_core.specs.Heap.{value_at};
 ghost use Rattle.ix_core.specs.Machine as model;
 ghost use Rattle.ix_core.specs.Tables.{tables_of, method_at};
-ghost use Rattle.ix_heap.specs.Rows.{held_of};
-ghost use Rattle.ix_heap.specs.View.{heap_of};
-ghost use Rattle.ix_frames.specs.Frames.{slots_of, frame_of};
-ghost use Rattle.ix_frames.specs.Waiting.{waits_of, HasRoom};
+ghost use Rattle.ix_machine_state.specs.Rows.{held_of};
+ghost use Rattle.ix_machine_state.specs.View.{heap_of};
+ghost use Rattle.ix_machine_state.specs.Frames.{slots_of, frame_of};
+ghost use Rattle.ix_machine_state.specs.Waiting.{waits_of, HasRoom};
 ghost use Rattle.ix_machine.specs.Turns.{state_with, after, IsQuiet};
 
+use crate::calls::default_in;
+use crate::operations::Done;
 use ix_core::{Outcome, Program, Value};
-use ix_frames::{Frame, Pool};
-use ix_heap::{Heap, Held};
-use ix_operations::{Done, default_in};
+use ix_machine_state::{Frame, Heap, Held, Pool};
 
 /// Whether a method is a constructor.
 fn is_constructor(program: &Program, method: u32) -> bool

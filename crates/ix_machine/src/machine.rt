@@ -5,25 +5,26 @@ ghost use Rattle.ix_core.specs.Machine as model;
 ghost use Rattle.ix_core.specs.Machine.{frame, slots_with, event_values};
 ghost use Rattle.ix_core.specs.Tables.{tables_of, method_at, body_of};
 ghost use Rattle.ix_core.specs.Tasks.{Empty, code_then};
-ghost use Rattle.ix_heap.specs.Rows.{held_of};
-ghost use Rattle.ix_frames.specs.Waiting.{HasRoom};
+ghost use Rattle.ix_machine_state.specs.Rows.{held_of};
+ghost use Rattle.ix_machine_state.specs.Waiting.{HasRoom};
 ghost use Rattle.ix_core.specs.Traces.{next_access};
 ghost use Rattle.ix_machine.specs.Accesses.{access_of, HasSize};
 ghost use Rattle.ix_machine.specs.Events.{event_of};
 ghost use Rattle.ix_machine.specs.Fit.{fits_once};
 ghost use Rattle.ix_machine.specs.Programs.{places_of, values_of};
-ghost use Rattle.ix_heap.specs.View.{heap_of};
+ghost use Rattle.ix_machine_state.specs.View.{heap_of};
 ghost use Rattle.ix_machine.specs.Turns.{state_with};
 
 use crate::access::{Access, access_in};
+use crate::calls::{body_in, slots_in};
 use crate::needs::program_room;
+use crate::operations::Done;
+use crate::rows::Rows;
 use crate::start::{Limits, StartError, entry_with, unmet_in, values_of};
 use crate::straight::do_operations;
 use crate::turns::turn;
 use ix_core::{Outcome, Program};
-use ix_frames::{Frame, Pool};
-use ix_heap::{Heap, Held};
-use ix_operations::{Done, Rows, body_in, slots_in};
+use ix_machine_state::{Frame, Heap, Held, Pool};
 use std::alloc::{AllocError, Global};
 
 /// What a step tells: that the run goes on, that it goes on and printed a value, or that it has stopped.

@@ -1,11 +1,11 @@
 //! The room that a program's methods need.
 ghost use Rattle.std.specs.Prelude.{◌≡◌, ◌+◌, max, length, IfOk};
 ghost use Rattle.ix_core.specs.Tables.{body_of};
-ghost use Rattle.ix_frames.specs.Room.{code_above, code_values};
+ghost use Rattle.ix_machine_state.specs.Room.{code_above, code_values};
 ghost use Rattle.ix_machine.specs.Programs.{places_of, values_of};
 
 use ix_core::{Method, Program};
-use ix_frames::{Room, items_needs};
+use ix_machine_state::{Room, items_needs};
 use std::alloc::AllocError;
 
 /// The room that a method's frame needs. The one error is want of memory: more places than can be counted.

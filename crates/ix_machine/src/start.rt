@@ -4,14 +4,14 @@ ghost use Rattle.ix_core.specs.Heap.{cells_used};
 ghost use Rattle.ix_core.specs.Inputs as model;
 ghost use Rattle.ix_core.specs.Safe.{input_heap, input_values};
 ghost use Rattle.ix_core.specs.Tables.{method_at};
-ghost use Rattle.ix_heap.specs.Rows.{held_of};
-ghost use Rattle.ix_heap.specs.View.{heap_of};
-ghost use Rattle.ix_inputs.specs.Shown.{input_of};
+ghost use Rattle.ix_machine_state.specs.Rows.{held_of};
+ghost use Rattle.ix_machine_state.specs.View.{heap_of};
+ghost use Rattle.ix_machine_inputs.specs.Shown.{input_of};
 ghost use Rattle.ix_machine.specs.Starts.{Given, Refuses, refusal_of};
 
 use ix_core::{Claim, Method, Program, Type_};
-use ix_heap::{Heap, Held};
-use ix_inputs::{Input, InputError, entry_of, first_unmet, inputs_of};
+use ix_machine_inputs::{Input, InputError, entry_of, first_unmet, inputs_of};
+use ix_machine_state::{Heap, Held};
 use ix_text::List;
 use std::alloc::{AllocError, Global};
 

@@ -6,18 +6,19 @@ ghost use Rattle.ix_core.specs.Machine as model;
 ghost use Rattle.ix_core.specs.Machine.{with_limits, Waiting};
 ghost use Rattle.ix_core.specs.Tables.{tables_of};
 ghost use Rattle.ix_core.specs.Tasks.{Tasks, code_then};
-ghost use Rattle.ix_heap.specs.View.{heap_of};
-ghost use Rattle.ix_frames.specs.Frames.{slots_of, frame_of};
-ghost use Rattle.ix_frames.specs.Fits.{IsFree};
-ghost use Rattle.ix_frames.specs.Places.{outer};
-ghost use Rattle.ix_frames.specs.declared.places.Place.TheVariants as place;
+ghost use Rattle.ix_machine_state.specs.View.{heap_of};
+ghost use Rattle.ix_machine_state.specs.Frames.{slots_of, frame_of};
+ghost use Rattle.ix_machine_state.specs.Fits.{IsFree};
+ghost use Rattle.ix_machine_state.specs.Places.{outer};
+ghost use Rattle.ix_machine_state.specs.declared.places.Place.TheVariants as place;
 ghost use Rattle.ix_machine.specs.Quiet.{LeadsTo};
 ghost use Rattle.ix_machine.specs.Turns.{state_with};
 
+use crate::calls::call_in;
+use crate::operations::{Done, operate};
+use crate::rows::Rows;
 use ix_core::{Item, Op};
-use ix_frames::Frame;
-use ix_heap::Heap;
-use ix_operations::{Done, Rows, call_in, operate};
+use ix_machine_state::{Frame, Heap};
 
 /// The items behind operations that were done, and how many these were.
 #[derive(Clone, Copy)]

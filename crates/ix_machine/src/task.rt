@@ -9,19 +9,20 @@ ghost use Rattle.ix_core.specs.Machine.{step_code, step_tasks, with_limits, test
 ghost use Rattle.ix_core.specs.Machine as model;
 ghost use Rattle.ix_core.specs.Tables.{tables_of, Tables};
 ghost use Rattle.ix_core.specs.Tasks.{Empty, Ask, code_then};
-ghost use Rattle.ix_heap.specs.Rows.{held_of};
-ghost use Rattle.ix_heap.specs.View.{heap_of};
-ghost use Rattle.ix_frames.specs.Frames.{slots_of};
-ghost use Rattle.ix_frames.specs.Fits.{IsFree, IsFreeFor};
-ghost use Rattle.ix_frames.specs.Places.{IsTask, around, outer, tasks_of, tasks_open, loop_tasks};
-ghost use Rattle.ix_frames.specs.declared.places.Place.TheVariants as place;
+ghost use Rattle.ix_machine_state.specs.Rows.{held_of};
+ghost use Rattle.ix_machine_state.specs.View.{heap_of};
+ghost use Rattle.ix_machine_state.specs.Frames.{slots_of};
+ghost use Rattle.ix_machine_state.specs.Fits.{IsFree, IsFreeFor};
+ghost use Rattle.ix_machine_state.specs.Places.{IsTask, around, outer, tasks_of, tasks_open, loop_tasks};
+ghost use Rattle.ix_machine_state.specs.declared.places.Place.TheVariants as place;
 ghost use Rattle.ix_machine.specs.Moves.{move_of, KeepsValues, IsBack, IsCall};
 
+use crate::calls::{Call, call_in};
+use crate::operations::{Done, operate};
+use crate::rows::Rows;
 use ix_core::{Base, Block, Cond, Item, Op, Outcome, Test, Type_};
-use ix_frames::{Frame, Place, Turn};
-use ix_heap::{Heap, Held};
+use ix_machine_state::{Frame, Heap, Held, Place, Turn};
 use ix_num::Rel;
-use ix_operations::{Call, Done, Rows, call_in, operate};
 
 /// What a step of a frame does.
 pub enum Move<'p> {

@@ -6,23 +6,24 @@ ghost use Rattle.ix_core.specs.Machine as model;
 ghost use Rattle.ix_core.specs.Machine.{with_limits};
 ghost use Rattle.ix_core.specs.Tables.{tables_of};
 ghost use Rattle.ix_core.specs.Tasks.{code_then};
-ghost use Rattle.ix_heap.specs.View.{heap_of};
-ghost use Rattle.ix_frames.specs.declared.places.Place.TheVariants as place_;
-ghost use Rattle.ix_frames.specs.Fits.{IsFree};
-ghost use Rattle.ix_frames.specs.Frames.{slots_of, frame_of};
-ghost use Rattle.ix_frames.specs.Places.{tasks_open};
-ghost use Rattle.ix_frames.specs.Waiting.{waits_of, HasRoom};
-ghost use Rattle.ix_operations.specs.Kinds.{kind_of};
+ghost use Rattle.ix_machine_state.specs.View.{heap_of};
+ghost use Rattle.ix_machine_state.specs.declared.places.Place.TheVariants as place_;
+ghost use Rattle.ix_machine_state.specs.Fits.{IsFree};
+ghost use Rattle.ix_machine_state.specs.Frames.{slots_of, frame_of};
+ghost use Rattle.ix_machine_state.specs.Places.{tasks_open};
+ghost use Rattle.ix_machine_state.specs.Waiting.{waits_of, HasRoom};
+ghost use Rattle.ix_machine.specs.Kinds.{kind_of};
 ghost use Rattle.ix_machine.specs.Programs.{places_of, values_of};
 ghost use Rattle.ix_machine.specs.Turns.{state_with, after, event_of, IsQuiet};
 
 use crate::call::{enter, method_of};
+use crate::calls::Call;
 use crate::ending::leave;
+use crate::operations::Done;
+use crate::rows::Rows;
 use crate::task::{Move, advance};
 use ix_core::Item;
-use ix_frames::{Frame, Place, Pool};
-use ix_heap::Heap;
-use ix_operations::{Call, Done, Rows};
+use ix_machine_state::{Frame, Heap, Place, Pool};
 
 /// Begins a call, or stops the run, and then the frame has its items again.
 #[inline(never)]

@@ -4,3 +4,4 @@ pub mod SmallRows
 pub mod DeclaratorNumbers
 pub mod ErrorLists
 pub mod FewDeclarations
+pub mod SubclassesClimb

@@ -13,6 +13,7 @@ pub mod Limits
 pub mod Listed
 pub mod Resolved
 pub mod Few
+pub mod Subclasses
 -- Passed on from ix_annot.
 pub use Rattle.ix_annot.specs.Expansion
 pub use Rattle.ix_annot.specs.Table

@@ -1,3 +1,8 @@
 mod FirstPassed
-mod Places
+mod PlacesPassed
 mod JointClaims
+mod MethodNotes
+pub mod NewLocals
+pub mod Prefix
+pub mod Told
+mod StatementsTold

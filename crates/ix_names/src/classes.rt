@@ -6,17 +6,20 @@ ghost use Rattle.std.specs.HashMap.{get_by_text};
 ghost use Rattle.ix_meaning.specs.Few.{DeclaresFew, DeclaresFewInClass};
 ghost use Rattle.ix_meaning.specs.Source as spec;
 ghost use Rattle.ix_meaning.specs.Declarators as declared;
-ghost use Rattle.ix_member_notes.specs.World.{shown};
-ghost use Rattle.ix_written.specs.Begun.{AllBegin, first_shown};
-ghost use Rattle.ix_member_notes.specs.Places.{at};
+ghost use Rattle.ix_class_members.specs.World.{shown};
+ghost use Rattle.ix_class_members.specs.Begun.{AllBegin, first_shown};
+ghost use Rattle.ix_names.specs.Places.{at};
 
+use crate::fields::field;
+use crate::methods::method;
+use crate::parents::implicit_super;
 use indexmap::IndexMap;
+use ix_class_members::{Begun, World, declaration_of, field_annotations};
+use ix_expression_types::{wrong, wrong_if};
 use ix_meaning::{Meaning, Note, Rule};
-use ix_member_notes::{World, field, implicit_super, method, wrong, wrong_if};
+use ix_symbols::{is_cyclic, note_first};
 use ix_text::List;
 use ix_tree::{ClassDecl, Ident, Member};
-use ix_types::{is_cyclic, note_first};
-use ix_written::{Begun, declaration_of, field_annotations};
 use std::alloc::{AllocError, Global};
 
 fn member_name(member: &Member) -> &Ident

@@ -6,8 +6,8 @@ ghost use Rattle.ix_names.specs.Shown.{shown};
 
 use crate::passed::{Passed, passed_at};
 use ix_meaning::Which;
+use ix_symbols::{class_table, parents, supers};
 use ix_tree::ClassDecl;
-use ix_types::{class_table, parents, supers};
 use std::alloc::{AllocError, Global};
 
 const MOST_INHERITED: usize = 32;

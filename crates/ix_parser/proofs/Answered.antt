@@ -6,21 +6,21 @@ use Rattle.ix_tree.specs.declared.decl.Unit.{Unit as Source}
 use Rattle.ix_grammar.specs.declared.classes.FoundUnit.{FoundUnit}
 use Rattle.ix_grammar.specs.declared.error.ParseError.{ParseError}
 use Rattle.ix_grammar.specs.declared.error.ParseError.TheVariants as error
-use Rattle.ix_descent.specs.declared.stop.Stop.{Stop}
-use Rattle.ix_descent.specs.declared.stop.Stop.TheVariants as stop
-use Rattle.ix_descent.specs.Rule.{run}
-use Rattle.ix_descent.specs.SourceRules.{source}
-use Rattle.ix_descent.specs.Errors.{place, error_at}
+use Rattle.ix_grammar_rules.specs.declared.stop.Stop.{Stop}
+use Rattle.ix_grammar_rules.specs.declared.stop.Stop.TheVariants as stop
+use Rattle.ix_grammar_rules.specs.Rule.{run}
+use Rattle.ix_grammar_rules.specs.SourceRules.{source}
+use Rattle.ix_grammar_rules.specs.Errors.{place, error_at}
 use Rattle.ix_grammar.specs.Refusals.{HasTree, Refused, unfinished, no_further, too_deep, IsWithin}
 use Rattle.ix_parser.proofs.ExactPlaces.{refused_exact, refused_behind, refused_one, refused_no_tree}
-use Rattle.ix_descent.proofs.ExprOver.{init_over, args_over}
-use Rattle.ix_descent.proofs.ExprViable.{init_viable, args_viable}
+use Rattle.ix_grammar_rules.proofs.ExprOver.{init_over, args_over}
+use Rattle.ix_grammar_rules.proofs.ExprViable.{init_viable, args_viable}
 use Rattle.ix_lexer.proofs.SplitInOrder.{drop_starts}
 use Rattle.ix_parser.proofs.Refusing.{no_tree}
-use Rattle.ix_descent.proofs.SourceOver.{TermsOver}
-use Rattle.ix_descent.proofs.SourceViable.{TermsViable}
-use Rattle.ix_descent.proofs.StmtOver.{block_statement_over}
-use Rattle.ix_descent.proofs.StmtsViable.{block_statement_viable}
+use Rattle.ix_grammar_rules.proofs.SourceOver.{TermsOver}
+use Rattle.ix_grammar_rules.proofs.SourceViable.{TermsViable}
+use Rattle.ix_grammar_rules.proofs.StmtOver.{block_statement_over}
+use Rattle.ix_grammar_rules.proofs.StmtsViable.{block_statement_viable}
 
 -- ---- expressions and statements
 

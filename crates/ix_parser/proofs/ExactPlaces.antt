@@ -5,22 +5,22 @@ use Rattle.ix_lexer.specs.declared.token.Token.{Token}
 use Rattle.ix_grammar.specs.declared.classes.FoundUnit.{FoundUnit}
 use Rattle.ix_grammar.specs.declared.error.ParseError.{ParseError}
 use Rattle.ix_grammar.specs.declared.error.ParseError.TheVariants as error
-use Rattle.ix_descent.specs.declared.stop.Stop.{Stop}
-use Rattle.ix_descent.specs.declared.stop.Stop.TheVariants.{Syntax, TooDeep, Memory}
-use Rattle.ix_descent.specs.Rule.{Outcome, run}
-use Rattle.ix_descent.specs.ClassRules.{program}
+use Rattle.ix_grammar_rules.specs.declared.stop.Stop.{Stop}
+use Rattle.ix_grammar_rules.specs.declared.stop.Stop.TheVariants.{Syntax, TooDeep, Memory}
+use Rattle.ix_grammar_rules.specs.Rule.{Outcome, run}
+use Rattle.ix_grammar_rules.specs.ClassRules.{program}
 use Rattle.ix_grammar.specs.SourceGrammar.{IsSource}
-use Rattle.ix_descent.specs.SourceRules.{parts, source}
+use Rattle.ix_grammar_rules.specs.SourceRules.{parts, source}
 use Rattle.ix_grammar.specs.Begins.{IsLowSource, NoneBegins}
 use Rattle.ix_grammar.specs.Refusals.{BeginsLow, Begins, NoMore, Stops, Refused, unfinished, no_further, too_deep}
-use Rattle.ix_descent.specs.Errors.{place, error_at}
-use Rattle.ix_descent.proofs.Runs.{left_of}
-use Rattle.ix_descent.proofs.OverRules.{Further}
+use Rattle.ix_grammar_rules.specs.Errors.{place, error_at}
+use Rattle.ix_grammar_rules.proofs.Runs.{left_of}
+use Rattle.ix_grammar_rules.proofs.OverRules.{Further}
 use Rattle.ix_parser.proofs.Refusing.{never_at_end}
-use Rattle.ix_descent.proofs.SourceLaws.{high_is, high_is_read, none_begins, none_goes_on, elsewhere, no_error, no_more}
-use Rattle.ix_descent.proofs.SourceOver.{TermsOver, source_over}
-use Rattle.ix_descent.proofs.SourceViable.{TermsViable, high_viable, source_goes}
-use Rattle.ix_descent.proofs.ViableRules.{Goes}
+use Rattle.ix_grammar_rules.proofs.SourceLaws.{high_is, high_is_read, none_begins, none_goes_on, elsewhere, no_error, no_more}
+use Rattle.ix_grammar_rules.proofs.SourceOver.{TermsOver, source_over}
+use Rattle.ix_grammar_rules.proofs.SourceViable.{TermsViable, high_viable, source_goes}
+use Rattle.ix_grammar_rules.proofs.ViableRules.{Goes}
 
 -- ---- fronts of the tokens
 

@@ -5,10 +5,10 @@ use Rattle.ix_tree.specs.declared.decl.Unit.{Unit as Source}
 use Rattle.ix_grammar.specs.declared.classes.FoundUnit.{FoundUnit}
 use Rattle.ix_grammar.specs.declared.error.ParseError.{ParseError}
 use Rattle.ix_grammar.specs.Refusals.{HasTree, Refused}
-use Rattle.ix_descent.specs.declared.stop.Stop.TheVariants as stop
-use Rattle.ix_descent.specs.Rule.{Outcome, run}
-use Rattle.ix_descent.specs.SourceRules.{source}
-use Rattle.ix_descent.proofs.SourceLaws.{source_is_read}
+use Rattle.ix_grammar_rules.specs.declared.stop.Stop.TheVariants as stop
+use Rattle.ix_grammar_rules.specs.Rule.{Outcome, run}
+use Rattle.ix_grammar_rules.specs.SourceRules.{source}
+use Rattle.ix_grammar_rules.proofs.SourceLaws.{source_is_read}
 use Rattle.ix_parser.proofs.Refusing.{has_tree, only_tree, never_memory}
 use Rattle.ix_parser.proofs.ExactPlaces.{refused_exact, refused_one, refused_no_tree}
 use Rattle.ix_parser.proofs.Answered.{viable, over, over_refused}

@@ -7,16 +7,16 @@ use Rattle.ix_tree.specs.Parts.{CanResolve}
 use Rattle.ix_tree.specs.Heights.{unit_height}
 use Rattle.ix_tree.specs.Placed.{Placed}
 use Rattle.ix_grammar.specs.declared.classes.FoundUnit.{FoundUnit}
-use Rattle.ix_descent.specs.declared.stop.Stop.{Stop}
-use Rattle.ix_descent.specs.declared.stop.Stop.TheVariants as stop
-use Rattle.ix_descent.specs.Rule.{Rule, pure, take, bind, stop, loop, Turn, On, Done, Outcome, Parser, and_then, taken, turned, turns, run}
-use Rattle.ix_descent.specs.SourceRules.{source}
+use Rattle.ix_grammar_rules.specs.declared.stop.Stop.{Stop}
+use Rattle.ix_grammar_rules.specs.declared.stop.Stop.TheVariants as stop
+use Rattle.ix_grammar_rules.specs.Rule.{Rule, pure, take, bind, stop, loop, Turn, On, Done, Outcome, Parser, and_then, taken, turned, turns, run}
+use Rattle.ix_grammar_rules.specs.SourceRules.{source}
 use Rattle.ix_grammar.specs.Refusals.{HasTree}
-use Rattle.ix_descent.proofs.Runs.{same_ok}
-use Rattle.ix_descent.proofs.ClassLaid.{source_placed}
-use Rattle.ix_descent.proofs.SourceHeights.{source_low}
-use Rattle.ix_descent.proofs.SourcePlaces.{source_can_resolve}
-use Rattle.ix_descent.proofs.SourceLaws.{source_is, source_is_read}
+use Rattle.ix_grammar_rules.proofs.Runs.{same_ok}
+use Rattle.ix_grammar_rules.proofs.ClassLaid.{source_placed}
+use Rattle.ix_grammar_rules.proofs.SourceHeights.{source_low}
+use Rattle.ix_grammar_rules.proofs.SourcePlaces.{source_can_resolve}
+use Rattle.ix_grammar_rules.proofs.SourceLaws.{source_is, source_is_read}
 use Rattle.ix_lexer.proofs.SplitInOrder.{some}
 
 -- ---- what is too high is a token, and no rule wants memory

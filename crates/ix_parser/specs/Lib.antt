@@ -1,5 +1,5 @@
--- Passed on from ix_descent.
-pub use Rattle.ix_descent.specs.declared.stop.Stop
-pub use Rattle.ix_descent.specs.Rule
-pub use Rattle.ix_descent.specs.ClassRules
-pub use Rattle.ix_descent.specs.SourceRules
+-- Passed on from ix_grammar_rules.
+pub use Rattle.ix_grammar_rules.specs.declared.stop.Stop
+pub use Rattle.ix_grammar_rules.specs.Rule
+pub use Rattle.ix_grammar_rules.specs.ClassRules
+pub use Rattle.ix_grammar_rules.specs.SourceRules

@@ -1,11 +1,22 @@
 //! From tokens to the tree.
 //!
 //! What goes in: the tokens of a text. What comes out: the one tree that the grammar gives them, or the token at which reading stopped.
-//! The contract: `parse`, over the relation of `ix_grammar`; `proofs/` puts together what `ix_descent` and `ix_descent` show of it.
-//! It stands on `ix_members` for the reading. It never looks at the text, and never at what a name means.
+//! The contract: `parse`, over the relation of `ix_grammar`; `proofs/` puts together what `ix_grammar_rules` show of it.
+//! It stands on `ix_parser` for the reading. It never looks at the text, and never at what a name means.
+//!
+//! Members, classes and whole sources (JLS 7, 8), read from tokens.
+//!
+//! Contract: `reads`, as in `ix_parse_base`, of `sources::source`: it answers what the rule of a source of a height of at most 200 reads.
+//! It stands on `ix_parse_statements`. It never looks at what a name means.
 #![tactic(auto)]
 
+pub mod bodies;
+pub mod class_rules;
+pub mod member_rules;
+pub mod parameters;
 mod parse_tree;
+pub mod sources;
 
 pub use ix_grammar::error::ParseError;
+pub use ix_parse_statements::cursor;
 pub use parse_tree::parse;

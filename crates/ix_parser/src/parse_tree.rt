@@ -5,16 +5,16 @@ ghost use Rattle.ix_tree.specs.declared.decl.Unit.{Unit as Source};
 ghost use Rattle.ix_tree.specs.Heights.{unit_height};
 ghost use Rattle.ix_tree.specs.Parts.{CanResolve};
 ghost use Rattle.ix_tree.specs.Placed.{Placed};
-ghost use Rattle.ix_descent.specs.Errors.{error_at as the_error};
+ghost use Rattle.ix_grammar_rules.specs.Errors.{error_at as the_error};
 ghost use Rattle.ix_grammar.specs.Refusals.{HasTree, Refused, IsWithin};
 ghost use Rattle.ix_grammar.specs.declared.error.ParseError.{ParseError as Refusal};
 ghost use Rattle.ix_grammar.specs.declared.error.ParseError.TheVariants.{Memory};
 
-use ix_descent::stop::Stop;
+use crate::sources::source;
 use ix_grammar::error::ParseError;
+use ix_grammar_rules::stop::Stop;
 use ix_lexer::Token;
-use ix_members::cursor::Cursor;
-use ix_members::sources::source;
+use ix_parse_statements::cursor::Cursor;
 use ix_tree::Unit;
 use std::alloc::Global;
 

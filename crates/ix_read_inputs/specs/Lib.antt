@@ -1,3 +1,3 @@
--- Passed on from ix_command_inputs.
-pub use Rattle.ix_command_inputs.specs.Sources
-pub use Rattle.ix_command_inputs.specs.Opened
+-- Passed on from ix_front.
+pub use Rattle.ix_front.specs.Sources
+pub use Rattle.ix_front.specs.Opened

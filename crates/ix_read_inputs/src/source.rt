@@ -2,13 +2,13 @@
 ghost use Rattle.std.specs.Prelude.{◌≡◌, ◌≤◌, ◌+◌, ◌++◌, ℕ, List, [], ◌∷◌, Option, Some, None, length, option_map, IfOk, IfSome, OnOk, IsErrOf};
 ghost use Rattle.ix_outside.specs.Outside.{Files, bytes_under, first_given, second_given};
 ghost use Rattle.ix_outside.specs.Reading.{most_bytes, most_certificate, most_turns, IsFront, IsAllOrPast};
-ghost use Rattle.ix_command_inputs.specs.Found.{Finding as FoundOf, Found};
-ghost use Rattle.ix_command_inputs.specs.Findings.{seen, IsPlaced, HasFormed};
-ghost use Rattle.ix_command_inputs.specs.Sources as spec;
-ghost use Rattle.ix_command_inputs.specs.Opened.{WasUnread, ReadsWithin, bytes_of, listed, names_of, given_of, opened_by, IsOpened};
+ghost use Rattle.ix_front.specs.Found.{Finding as FoundOf, Found};
+ghost use Rattle.ix_front.specs.Findings.{seen, IsPlaced, HasFormed};
+ghost use Rattle.ix_front.specs.Sources as spec;
+ghost use Rattle.ix_front.specs.Opened.{WasUnread, ReadsWithin, bytes_of, listed, names_of, given_of, opened_by, IsOpened};
 ghost use Rattle.ix_words.specs.Shown.{shown};
 
-use ix_command_inputs::{Finding, Inputs, of_bytes};
+use ix_front::{Finding, Inputs, of_bytes};
 use ix_gen::generate;
 use ix_library::joined;
 use ix_outside::{MOST_BYTES, MOST_CERTIFICATE, ReadError, Source, read_file};

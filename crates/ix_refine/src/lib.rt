@@ -2,7 +2,7 @@
 //!
 //! What goes in: a store, and a test of two slots. What comes out: the store where it is true, and that where it is false.
 //! The contract: `IsTested` of `ix_facts`: one outcome after the other is told to the store, and each reads what those before it gave, closed.
-//! It stands on `ix_store` for stores, on `ix_outcomes` for what an answer tells.
+//! It stands on `ix_store` for stores, on `ix_test_facts` for what an answer tells.
 //! It never looks at how a store is kept.
 #![tactic(auto)]
 

@@ -1,2 +1,3 @@
 mod FewMethods
 pub mod Verdicts
+pub mod Deliveries

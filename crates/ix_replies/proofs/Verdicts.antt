@@ -4,9 +4,9 @@ use Rattle.ix_core.specs.declared.error.Error.{Error}
 use Rattle.ix_core.specs.declared.program.Program.{Program}
 use Rattle.ix_report.specs.Reports.{report, told}
 use Rattle.ix_report.specs.Runs.{bench_rejected}
-use Rattle.ix_answer.specs.Answer.{out_answer}
-use Rattle.ix_answer.specs.Statuses.{is_answer}
-use Rattle.ix_answer.specs.declared.status.Status.TheVariants.{Done, Rejected}
+use Rattle.ix_replies.specs.Answer.{out_answer}
+use Rattle.ix_replies.specs.Statuses.{is_answer}
+use Rattle.ix_replies.specs.declared.status.Status.TheVariants.{Done, Rejected}
 use Rattle.ix_replies.specs.Said.{verdict, bench_verdict}
 
 pub verdict_rejected : (file bytes : List ℕ) (program : Program) (errors : List Error) → length errors ≢ 0

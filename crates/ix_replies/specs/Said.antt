@@ -5,8 +5,8 @@ use Rattle.ix_core.specs.declared.program.Program.{Program}
 use Rattle.ix_report.specs.Reports.{report, told}
 use Rattle.ix_report.specs.Texts.{line, accepted}
 use Rattle.ix_report.specs.Runs.{bench_accepted, bench_rejected}
-use Rattle.ix_answer.specs.Answer.{Answer, out_answer, err_answer}
-use Rattle.ix_answer.specs.declared.status.Status.TheVariants.{Done, Rejected, Usage}
+use Rattle.ix_replies.specs.Answer.{Answer, out_answer, err_answer}
+use Rattle.ix_replies.specs.declared.status.Status.TheVariants.{Done, Rejected, Usage}
 use Rattle.ix_replies.specs.Counts.{counts_of}
 
 -- the answer to words that are no command

@@ -1,14 +1,16 @@
 //! The replies to commands, before they are written.
 ghost use Rattle.std.specs.Prelude.{◌≡◌, ◌≤◌, length, IfOk};
 ghost use Rattle.ix_core.specs.Formed.{Formed};
-ghost use Rattle.ix_answer.specs.Answer.{out_answer, err_answer};
-ghost use Rattle.ix_answer.specs.Replies.{shown};
+ghost use Rattle.ix_replies.specs.Answer.{out_answer, err_answer};
+ghost use Rattle.ix_replies.specs.Replies.{shown};
 ghost use Rattle.ix_replies.specs.Said.{verdict, bench_verdict, usage, read_failed};
 ghost use Rattle.ix_report.specs.Texts as text;
 ghost use Rattle.ix_report.specs.Names as names_text;
 
 use crate::counts::count_program;
-use ix_answer::{Reply, Status, on_err, on_out};
+use crate::making::{on_err, on_out};
+use crate::status::Status;
+use crate::written_reply::Reply;
 use ix_core::{Error, Program};
 use ix_meaning::NameError;
 use ix_report::{

@@ -14,14 +14,14 @@ use Rattle.ix_core.specs.declared.program.Program.{Program}
 use Rattle.ix_core.specs.Tables.{param_slot}
 use Rattle.ix_facts.specs.Stores.{Stored, IsAfter, IsAdded, Gives, operated, with_facts}
 use Rattle.ix_facts.specs.Systems.{HaveClasses}
-use Rattle.ix_claim_facts.specs.MachineSteps.{own_path}
+use Rattle.ix_signatures.specs.MachineSteps.{own_path}
 use Rattle.ix_store.specs.declared.store.Store.{Store}
 use Rattle.ix_store.specs.StoredFacts.{stored}
-use Rattle.ix_claim_facts.specs.Names.{param_in, variable_at}
-use Rattle.ix_claim_facts.specs.Signs.{Adds, IsLeastOf}
-use Rattle.ix_claim_facts.proofs.LeastSteps.{least_given, least_then}
-use Rattle.ix_claim_facts.proofs.SignSteps.{adds_step}
-use Rattle.ix_claim_facts.proofs.SignClasses.{claims_have}
+use Rattle.ix_signatures.specs.Names.{param_in, variable_at}
+use Rattle.ix_signatures.specs.Signs.{Adds, IsLeastOf}
+use Rattle.ix_signatures.proofs.LeastSteps.{least_given, least_then}
+use Rattle.ix_signatures.proofs.SignSteps.{adds_step}
+use Rattle.ix_signatures.proofs.SignClasses.{claims_have}
 use Rattle.ix_core.specs.declared.fact.Path.TheVariants.{Slot}
 use Rattle.ix_sign.specs.MethodRules.{variable_claims, copied_claims, KindGives}
 

@@ -5,10 +5,10 @@ use Rattle.ix_core.specs.declared.fact.Path.{Path}
 use Rattle.ix_core.specs.declared.fact.Path.TheVariants.{Slot, FieldOf}
 use Rattle.ix_core.specs.declared.program.Method.{Method}
 use Rattle.ix_facts.specs.Forget.{of_field, of_call}
-use Rattle.ix_claim_facts.specs.MachineSteps.{own_slot}
-use Rattle.ix_claim_facts.specs.FieldAccess.{spared_by}
+use Rattle.ix_signatures.specs.MachineSteps.{own_slot}
+use Rattle.ix_signatures.specs.FieldAccess.{spared_by}
 use Rattle.ix_store.specs.ChangedPaths.{is_spared}
-use Rattle.ix_claim_facts.specs.Spared.{this_if}
+use Rattle.ix_signatures.specs.Spared.{this_if}
 
 pub spared_if : (test : Bool) (slot : ℕ) → is_spared (this_if test) slot ≡ (test && (slot == 0))
 spared_if true slot = refl

@@ -15,7 +15,7 @@ use Rattle.ix_core.specs.declared.op.CallOp.{CallOp}
 use Rattle.ix_core.specs.Tables.{field_at}
 use Rattle.ix_num.specs.Ints.{least_int}
 use Rattle.ix_facts.specs.AfterOperation.{loaded_claims}
-use Rattle.ix_claim_facts.specs.MachineSteps.{on_paths, own_path}
+use Rattle.ix_signatures.specs.MachineSteps.{on_paths, own_path}
 use Rattle.ix_core.specs.declared.fact.Fact.{Fact}
 use Rattle.ix_core.specs.declared.fact.Path.{Path}
 use Rattle.ix_core.specs.declared.fact.PathClaim.{PathClaim}
@@ -28,10 +28,10 @@ use Rattle.ix_facts.specs.Stores.{Stored, Unreachable, Reached, IsBelow}
 use Rattle.ix_facts.proofs.SplitLaws.{proved_mono}
 use Rattle.ix_facts.proofs.StoreLaws.{below_itself}
 use Rattle.ix_flow.specs.Flow.{Point, Doing, Returning, Ending}
-use Rattle.ix_claim_facts.specs.Names.{variable_at, call_path, object_path, written_path}
-use Rattle.ix_claim_facts.specs.Signs.{Adds, write_facts}
-use Rattle.ix_claim_facts.specs.SignErrors.{Refuses, AllRefuse, IsReached, Unproved, part, ArgumentClaim, ConstructorClaim, PostClaim}
-use Rattle.ix_claim_facts.proofs.SignSteps.{adds_step}
+use Rattle.ix_signatures.specs.Names.{variable_at, call_path, object_path, written_path}
+use Rattle.ix_signatures.specs.Signs.{Adds, write_facts}
+use Rattle.ix_signatures.specs.SignErrors.{Refuses, AllRefuse, IsReached, Unproved, part, ArgumentClaim, ConstructorClaim, PostClaim}
+use Rattle.ix_signatures.proofs.SignSteps.{adds_step}
 use Rattle.ix_sign.specs.RuleErrors.{AccessLow, AccessHigh, AssignClaim, ElementClaim, KindErrors, PointErrors, subject_of, no_path}
 
 module _ (s t : Stored) (below : IsBelow s t) where

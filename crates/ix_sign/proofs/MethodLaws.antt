@@ -11,8 +11,8 @@ use Rattle.ix_facts.proofs.SaidRules.{operated_mono, rounded_mono}
 use Rattle.ix_facts.proofs.StepLaws.{gives_step, then_step, outcomes_step}
 use Rattle.ix_facts.proofs.StoreLaws.{below_itself, below_below}
 use Rattle.ix_flow.specs.Flow.{RulesLaws}
-use Rattle.ix_claim_facts.specs.Signs.{Adds}
-use Rattle.ix_claim_facts.proofs.SignSteps.{adds_step, signs_monotone}
+use Rattle.ix_signatures.specs.Signs.{Adds}
+use Rattle.ix_signatures.proofs.SignSteps.{adds_step, signs_monotone}
 use Rattle.ix_sign.specs.MethodRules.{copied_claims, KindGives, method_rules}
 
 module _ (program : Program) (method : Method) (profile : Profile) where

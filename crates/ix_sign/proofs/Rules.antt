@@ -10,15 +10,15 @@ use Rattle.ix_core.specs.Tables.{field_at, method_at}
 use Rattle.ix_facts.specs.Exact.{if_so}
 use Rattle.ix_facts.specs.Forget.{without, of_slot, of_field, of_this}
 use Rattle.ix_facts.specs.Stores.{Stored, IsAdded, IsCopied, IsForgotten, Then, with_facts, with_copy}
-use Rattle.ix_claim_facts.specs.FieldAccess.{spared_by}
+use Rattle.ix_signatures.specs.FieldAccess.{spared_by}
 use Rattle.ix_store.specs.ChangedPaths.{is_spared, is_final, of_called, of_parent}
-use Rattle.ix_claim_facts.specs.Spared.{this_if}
-use Rattle.ix_claim_facts.specs.Names.{is_built}
-use Rattle.ix_claim_facts.specs.Signs.{Adds, Forgets, Copies, IsLeastOf, read_facts, write_facts, of_callee, result_facts, zero_fields, own_fields, fields_facts, inherited_fields, ReadGives, WriteGives, CallGives, SuperGives}
-use Rattle.ix_claim_facts.proofs.SignSteps.{adds_step, forgets_step, copies_step}
+use Rattle.ix_signatures.specs.Spared.{this_if}
+use Rattle.ix_signatures.specs.Names.{is_built}
+use Rattle.ix_signatures.specs.Signs.{Adds, Forgets, Copies, IsLeastOf, read_facts, write_facts, of_callee, result_facts, zero_fields, own_fields, fields_facts, inherited_fields, ReadGives, WriteGives, CallGives, SuperGives}
+use Rattle.ix_signatures.proofs.SignSteps.{adds_step, forgets_step, copies_step}
 use Rattle.ix_facts.proofs.StepLaws.{then_step}
-use Rattle.ix_claim_facts.proofs.LeastSteps.{least_given, least_then}
-use Rattle.ix_claim_facts.proofs.ForgottenAlike.{forgotten_alike}
+use Rattle.ix_signatures.proofs.LeastSteps.{least_given, least_then}
+use Rattle.ix_signatures.proofs.ForgottenAlike.{forgotten_alike}
 use Rattle.ix_sign.proofs.Alike.{field_alike, call_alike}
 
 module _ (program : Program) (method : Method) where

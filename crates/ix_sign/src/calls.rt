@@ -3,12 +3,12 @@
 ghost use Rattle.std.specs.Prelude.{◌≡◌, ◌++◌, IfOk};
 ghost use Rattle.ix_core.specs.Tables.{method_at};
 ghost use Rattle.ix_store.specs.StoredFacts.{stored};
-ghost use Rattle.ix_claim_facts.specs.Naming.{HaveSmallNames};
-ghost use Rattle.ix_claim_facts.specs.Signs as signs;
-ghost use Rattle.ix_claim_facts.specs.Signs.{IsLeastOf, CallGives, SuperGives, zero_fields, fields_facts, own_fields};
+ghost use Rattle.ix_signatures.specs.Naming.{HaveSmallNames};
+ghost use Rattle.ix_signatures.specs.Signs as signs;
+ghost use Rattle.ix_signatures.specs.Signs.{IsLeastOf, CallGives, SuperGives, zero_fields, fields_facts, own_fields};
 
-use ix_claim_facts::{facts_of_this, is_effect_free, result_facts, this_if};
 use ix_core::{CallOp, Method, Program};
+use ix_signatures::{facts_of_this, is_effect_free, result_facts, this_if};
 use ix_store::Store;
 use std::alloc::{AllocError, Global};
 

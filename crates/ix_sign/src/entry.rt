@@ -3,11 +3,11 @@
 ghost use Rattle.std.specs.Prelude.{◌≡◌, IfOk};
 ghost use Rattle.ix_facts.specs.Stores.{IsStoreOf};
 ghost use Rattle.ix_store.specs.StoredFacts.{stored};
-ghost use Rattle.ix_claim_facts.specs.Naming.{HasSmallNames};
-ghost use Rattle.ix_claim_facts.specs.Signs as signs;
+ghost use Rattle.ix_signatures.specs.Naming.{HasSmallNames};
+ghost use Rattle.ix_signatures.specs.Signs as signs;
 
-use ix_claim_facts::entry_facts;
 use ix_core::{Method, Program};
+use ix_signatures::entry_facts;
 use ix_store::Store;
 use std::alloc::{AllocError, Global};
 

@@ -5,13 +5,13 @@ ghost use Rattle.ix_core.specs.Tables.{field_at};
 ghost use Rattle.ix_facts.specs.Exact.{if_so};
 ghost use Rattle.ix_facts.specs.Stores.{IsCopied};
 ghost use Rattle.ix_store.specs.StoredFacts.{stored};
-ghost use Rattle.ix_claim_facts.specs.Names as names;
-ghost use Rattle.ix_claim_facts.specs.Naming.{HaveSmallNames};
-ghost use Rattle.ix_claim_facts.specs.Signs.{IsLeastOf, ReadGives, WriteGives, read_facts, write_facts};
-ghost use Rattle.ix_claim_facts.specs.Spared as spared;
+ghost use Rattle.ix_signatures.specs.Names as names;
+ghost use Rattle.ix_signatures.specs.Naming.{HaveSmallNames};
+ghost use Rattle.ix_signatures.specs.Signs.{IsLeastOf, ReadGives, WriteGives, read_facts, write_facts};
+ghost use Rattle.ix_signatures.specs.Spared as spared;
 
-use ix_claim_facts::{facts_at_read, facts_at_write, spared_at_write};
 use ix_core::{Method, Path, Program, Type_};
+use ix_signatures::{facts_at_read, facts_at_write, spared_at_write};
 use ix_store::Store;
 use std::alloc::{AllocError, Global};
 

@@ -3,7 +3,7 @@
 //! What goes in: a program, one of its methods, a profile, an operation, and the store before it. What comes out: the store behind it; also the one at the method's entry, and the one
 //! where the answer of a call is known.
 //! The contract: the rules of the method as rules of flow, with their laws; each store is the least that they give.
-//! It stands on `ix_store` for stores, on `ix_claim_facts` for what claims add, on `ix_flow` for what a rule of flow is.
+//! It stands on `ix_store` for stores, on `ix_signatures` for what claims add, on `ix_flow` for what a rule of flow is.
 //! It never looks at how a body is put together, nor makes a list of errors.
 #![tactic(auto)]
 
@@ -16,7 +16,7 @@ mod variable;
 mod variables;
 
 pub use entry::enter;
-pub use ix_claim_facts::Naming;
+pub use ix_signatures::Naming;
 pub use ix_store::Store;
 pub use operations::after;
 pub use told::tell;

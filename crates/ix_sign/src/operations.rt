@@ -4,15 +4,15 @@ ghost use Rattle.std.specs.Prelude.{◌≡◌, IfOk};
 ghost use Rattle.ix_core.specs.declared.op.OpKind.TheVariants as op;
 ghost use Rattle.ix_facts.specs.Stores.{Gives, Then, operated};
 ghost use Rattle.ix_store.specs.StoredFacts.{stored};
-ghost use Rattle.ix_claim_facts.specs.Naming.{HasSmallNames, HaveSmallNames};
-ghost use Rattle.ix_claim_facts.specs.Signs.{Adds, IsLeastOf};
+ghost use Rattle.ix_signatures.specs.Naming.{HasSmallNames, HaveSmallNames};
+ghost use Rattle.ix_signatures.specs.Signs.{Adds, IsLeastOf};
 ghost use Rattle.ix_sign.specs.MethodRules.{copied_claims, AfterGives};
 
 use crate::calls::{after_call, after_super};
 use crate::fields::{after_read, after_write};
 use crate::variables::variable_at;
-use ix_claim_facts::{Naming, push_claims};
 use ix_core::{Fact, Method, Op, OpKind, Path, Profile, Program};
+use ix_signatures::{Naming, push_claims};
 use ix_store::Store;
 use std::alloc::{AllocError, Global};
 

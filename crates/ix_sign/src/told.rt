@@ -2,12 +2,12 @@
 
 ghost use Rattle.std.specs.Prelude.{IfOk, option_map};
 ghost use Rattle.ix_store.specs.StoredFacts.{stored};
-ghost use Rattle.ix_claim_facts.specs.Naming.{HaveSmallNames};
-ghost use Rattle.ix_claim_facts.specs.Signs as signs;
-ghost use Rattle.ix_claim_facts.specs.Signs.{Adds, IsLeastOf};
+ghost use Rattle.ix_signatures.specs.Naming.{HaveSmallNames};
+ghost use Rattle.ix_signatures.specs.Signs as signs;
+ghost use Rattle.ix_signatures.specs.Signs.{Adds, IsLeastOf};
 
-use ix_claim_facts::told_facts;
 use ix_core::{Op, Program};
+use ix_signatures::told_facts;
 use ix_store::Store;
 use std::alloc::{AllocError, Global};
 

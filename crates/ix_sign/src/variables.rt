@@ -2,13 +2,13 @@
 
 ghost use Rattle.std.specs.Prelude.{◌≡◌, ◌+◌, ◌<◌, ◌^◌, ◌&&◌, ◌==◌, nat_lt, not, option_map, IfSome};
 ghost use Rattle.ix_core.specs.Tables.{param_slot as slot_of};
-ghost use Rattle.ix_claim_facts.specs.Names as names;
-ghost use Rattle.ix_claim_facts.specs.Naming.{AreSmallClaims, HasSmallNames};
+ghost use Rattle.ix_signatures.specs.Names as names;
+ghost use Rattle.ix_signatures.specs.Naming.{AreSmallClaims, HasSmallNames};
 ghost use Rattle.ix_sign.specs.Shown.{shown};
 
 use crate::variable::Variable;
-use ix_claim_facts::param_slot;
 use ix_core::{Local, Method, Name};
+use ix_signatures::param_slot;
 use ix_text::Span;
 
 /// Whether the parameter has the slot.

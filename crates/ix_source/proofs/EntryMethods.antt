@@ -24,24 +24,24 @@ use Rattle.ix_plain.specs.Program.{tables}
 use Rattle.ix_formed.specs.Shape.{types_of}
 use Rattle.ix_formed.proofs.FieldsFit.{IsAccepted}
 use Rattle.ix_formed.proofs.ProgramsHaveShape.{types_behind}
-use Rattle.ix_source_meaning.specs.Runs.{Now, Result, Gives, Stops, Cuts, go_on, gives, with_variables}
-use Rattle.ix_source_meaning.specs.Context.{type_declared}
-use Rattle.ix_source_meaning.specs.Statements.{Completion, Normal, Breaks, Continues, Returns, each}
-use Rattle.ix_source_meaning.specs.Bodies.{Whole, Written, name_of, whole, written, members, static_of, variables, back, given_back, method_run, context_of, calls_within}
-use Rattle.ix_source_meaning.specs.Source as source
-use Rattle.ix_source_meaning.specs.Source.{shown_by, begun}
-use Rattle.ix_kept_runs.specs.Seen.{Leads, Frame, at, Decides}
-use Rattle.ix_kept_runs.specs.Kept.{code_before}
-use Rattle.ix_kept_runs.specs.Called.{first_slots}
-use Rattle.ix_kept_runs.specs.SoundStatements.{AssignsOwn}
-use Rattle.ix_kept_runs.specs.Running.{Ground, Stands, AlongWith, Follows, IsReturned}
-use Rattle.ix_kept_runs.proofs.Paths.{both, one_step}
+use Rattle.ix_source.specs.Runs.{Now, Result, Gives, Stops, Cuts, go_on, gives, with_variables}
+use Rattle.ix_source.specs.Context.{type_declared}
+use Rattle.ix_source.specs.Statements.{Completion, Normal, Breaks, Continues, Returns, each}
+use Rattle.ix_source.specs.Bodies.{Whole, Written, name_of, whole, written, members, static_of, variables, back, given_back, method_run, context_of, calls_within}
+use Rattle.ix_source.specs.Source as source
+use Rattle.ix_source.specs.Source.{shown_by, begun}
+use Rattle.ix_source.specs.Seen.{Leads, Frame, at, Decides}
+use Rattle.ix_source.specs.Kept.{code_before}
+use Rattle.ix_source.specs.Called.{first_slots}
+use Rattle.ix_source.specs.SoundStatements.{AssignsOwn}
+use Rattle.ix_source.specs.Running.{Ground, Stands, AlongWith, Follows, IsReturned}
+use Rattle.ix_source.proofs.Paths.{both, one_step}
 use Rattle.ix_source.specs.Whole.{Meets}
-use Rattle.ix_kept_runs.specs.Declared.{AllClasses}
-use Rattle.ix_kept_runs.specs.SoundBodies.{IsSoundMethod, IsSoundDefault}
-use Rattle.ix_kept_runs.proofs.Calls.{not_constructor, map_none, map_some}
-use Rattle.ix_kept_runs.proofs.Depths.{declared, body_kept, below_of, one_below, callees_run}
-use Rattle.ix_kept_runs.proofs.FieldStarts.{type_same}
+use Rattle.ix_source.specs.ByNumber.{AllClasses}
+use Rattle.ix_source.specs.SoundBodies.{IsSoundMethod, IsSoundDefault}
+use Rattle.ix_source.proofs.Calls.{not_constructor, map_none, map_some}
+use Rattle.ix_source.proofs.Depths.{declared, body_kept, below_of, one_below, callees_run}
+use Rattle.ix_source.proofs.FieldStarts.{type_same}
 
 -- ---- the first frame ends
 

@@ -7,8 +7,8 @@ use Rattle.ix_core.specs.declared.program.Program.{Program}
 use Rattle.ix_core.specs.Machine.{State, no_limits, run}
 use Rattle.ix_core.specs.Safe.{Input, Begins, Safe, IsBad, Counts, start}
 use Rattle.ix_core.specs.Tables.{tables_of}
-use Rattle.ix_source_meaning.specs.Promise.{IsWithin, IsGood, Counts as SourceCounts}
-use Rattle.ix_source_meaning.specs.Source.{Shown}
+use Rattle.ix_source.specs.Promise.{IsWithin, IsGood, Counts as SourceCounts}
+use Rattle.ix_source.specs.Source.{Shown}
 use Rattle.ix_source.specs.Whole.{Meets}
 use Rattle.ix_source.proofs.SafeTraces.{traces_within}
 use Rattle.ix_source.proofs.Wrapped.{unwrapped_before}

@@ -10,8 +10,8 @@ use Rattle.ix_formed.specs.Parsed.{IsParsed}
 use Rattle.ix_formed.proofs.FieldsFit.{IsAccepted}
 use Rattle.ix_meaning.specs.Resolved.{Accepts, names}
 use Rattle.ix_plain.specs.Program.{program as program_of}
-use Rattle.ix_source_meaning.specs.Promise.{SafeSource}
-use Rattle.ix_source_meaning.specs.Source.{source}
+use Rattle.ix_source.specs.Promise.{SafeSource}
+use Rattle.ix_source.specs.Source.{source}
 use Rattle.ix_source.specs.Whole.{Keeps}
 use Rattle.ix_source.proofs.EntriesBegin.{enters_begins}
 use Rattle.ix_source.proofs.RunsMeet.{all_meet}

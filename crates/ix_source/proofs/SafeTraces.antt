@@ -11,7 +11,7 @@ use Rattle.ix_core.specs.Safe.{IsBad}
 use Rattle.ix_core.specs.Tables.{Tables}
 use Rattle.ix_core.specs.Tasks.{Tasks, Empty, Run, Ask, Decide, DecideTruth, Head, Again, Out, code_then}
 use Rattle.ix_core.specs.Traces.{Observation, accessed, access_on, op_seen, task_seen, seen_from, step_seen, trace}
-use Rattle.ix_source_meaning.specs.Promise.{IsWithin}
+use Rattle.ix_source.specs.Promise.{IsWithin}
 
 module _ (tables : Tables) where
   -- ---- one step

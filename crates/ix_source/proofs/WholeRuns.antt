@@ -3,12 +3,11 @@ use Rattle.std.proofs.Common.{◌≡◌, ◌≤◌, ◌⊎◌, inl, inr, ℕ, ze
 use Rattle.std.proofs.lemmas.List.{append-nil}
 use Rattle.ix_core.specs.Machine.{Ending, State, no_limits, step, step_from, run}
 use Rattle.ix_core.specs.Tables.{Tables}
-use Rattle.ix_core.specs.Traces.{Observation}
-use Rattle.ix_source_meaning.specs.Source.{Shown}
-use Rattle.ix_core.specs.Traces.{seen_from}
-use Rattle.ix_kept_runs.specs.Seen.{seen}
+use Rattle.ix_core.specs.Traces.{Observation, seen_from}
+use Rattle.ix_source.specs.Source.{Shown}
+use Rattle.ix_source.specs.Seen.{seen}
 use Rattle.ix_source.specs.Whole.{Same, BeginsWith, Keeps, Meets}
-use Rattle.ix_kept_runs.proofs.Paths.{more, run_more, seen_more}
+use Rattle.ix_source.proofs.Paths.{more, run_more, seen_more}
 
 some_none : {G : Type 0} (e : Ending) → Some e ≡ None → G
 some_none e is = absurd (cc is)

@@ -7,8 +7,8 @@ use Rattle.ix_core.specs.Safe.{Input, CanRun, Begins, IsSafe, start, state_after
 use Rattle.ix_core.specs.Tables.{Tables, tables_of}
 use Rattle.ix_tree.specs.declared.decl.Unit.{Unit as Source}
 use Rattle.ix_core.specs.Traces.{Observation}
-use Rattle.ix_source_meaning.specs.Source.{Shown, source}
-use Rattle.ix_kept_runs.specs.Seen.{seen}
+use Rattle.ix_source.specs.Source.{Shown, source}
+use Rattle.ix_source.specs.Seen.{seen}
 
 -- one list begins with another
 pub record BeginsWith (whole first : List Observation) : Type 0 where

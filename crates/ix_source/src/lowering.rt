@@ -10,12 +10,12 @@ ghost use Rattle.ix_meaning.specs.Resolved.{Accepts, names};
 ghost use Rattle.ix_meaning.specs.Source.{members_in};
 ghost use Rattle.ix_plain.specs.Program as spec;
 ghost use Rattle.ix_source.specs.Whole.{IsKept, SafeUnlimited};
-ghost use Rattle.ix_source_meaning.specs.Promise.{Enters, SafeSource};
-ghost use Rattle.ix_table.specs.Numbered.{shown};
+ghost use Rattle.ix_source.specs.Promise.{Enters, SafeSource};
+ghost use Rattle.ix_symbols.specs.Numbered.{shown};
 
 use ix_core::Program;
 use ix_lower::{LowerError, lower};
-use ix_table::Table;
+use ix_symbols::Table;
 use ix_tree::Unit;
 use std::alloc::Global;
 

@@ -6,8 +6,8 @@ use Rattle.ix_core.specs.declared.fact.Fact.{Fact}
 use Rattle.ix_facts.specs.Facts.{IsIn, Covers, is_default, in_orders}
 use Rattle.ix_facts.specs.Closure.{Said, Closed}
 use Rattle.ix_facts.proofs.SaidLaws.{default_is, is_a_default}
-use Rattle.ix_closure.specs.FactOrder.{at_key, key_equal}
-use Rattle.ix_closure.specs.MeetLaws.{covers_key, strong_covers, covers_strong}
+use Rattle.ix_fact_table.specs.FactOrder.{at_key, key_equal}
+use Rattle.ix_fact_table.specs.MeetLaws.{covers_key, strong_covers, covers_strong}
 use Rattle.ix_store.specs.ClosedFacts.{covers, some_covers, is_said, AreClosed}
 
 both_true : (a b : Bool) → (a && b) ≡ true → (a ≡ true) × (b ≡ true)

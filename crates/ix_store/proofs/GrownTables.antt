@@ -3,9 +3,9 @@ use Rattle.std.specs.Prelude.{◌≡◌, List, Option, Some, None, IfSome, IfNon
 use Rattle.std.proofs.Common.{subst}
 use Rattle.ix_core.specs.declared.fact.Fact.{Fact}
 use Rattle.ix_facts.specs.Closure.{IsClosedOf}
-use Rattle.ix_closure.specs.FactTable.{FactTable}
-use Rattle.ix_closure.specs.FactTables.{facts_of}
-use Rattle.ix_closure.specs.Saturated.{IsSaturated}
+use Rattle.ix_fact_table.specs.declared.fact_table.FactTable.{FactTable}
+use Rattle.ix_fact_table.specs.FactTables.{facts_of}
+use Rattle.ix_fact_table.specs.Saturated.{IsSaturated}
 
 -- of the facts from which all that is said follows
 module _ (facts saturated : List Fact) (whole : IsSaturated facts saturated) where

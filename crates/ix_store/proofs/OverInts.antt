@@ -30,10 +30,10 @@ use Rattle.ix_fact_list.specs.ByPath.{put_all}
 use Rattle.ix_fact_list.specs.Ends.{is_end, ends_in}
 use Rattle.ix_fact_list.specs.NamedLaws.{AreAmong, named_by, names_it, named_either}
 use Rattle.ix_fact_list.specs.PutLaws.{IsRising, all_rise, all_stay, all_there}
-use Rattle.ix_changes.specs.ChangedPaths.{some_path, paths_beside}
-use Rattle.ix_changes.specs.Spared.{some_named, spared}
-use Rattle.ix_closure.specs.FactOrder.{comes_before}
-use Rattle.ix_closure.specs.TableLaws.{all_may}
+use Rattle.ix_fact_paths.specs.ChangedPaths.{some_path, paths_beside}
+use Rattle.ix_fact_paths.specs.Spared.{some_named, spared}
+use Rattle.ix_fact_table.specs.FactOrder.{comes_before}
+use Rattle.ix_fact_table.specs.TableLaws.{all_may}
 use Rattle.ix_store.specs.declared.known.Known.{Known}
 use Rattle.ix_store.specs.StoredFacts.{facts_in}
 

@@ -12,14 +12,14 @@ use Rattle.ix_facts.specs.Facts.{IsIn, is_default}
 use Rattle.ix_facts.specs.PathOrder.{path_cmp}
 use Rattle.ix_facts.specs.Closure.{Contradicts}
 use Rattle.ix_facts.specs.Stores.{IsStoreOf, Reached, reached}
-use Rattle.ix_closure.specs.FactTable.{FactTable}
-use Rattle.ix_closure.specs.FactTables.{facts_of}
-use Rattle.ix_closure.specs.FactOrder.{fact_cmp}
-use Rattle.ix_closure.specs.Entries.{in_first_order, is_first, has_ends, is_entry}
-use Rattle.ix_closure.specs.MeetLaws.{entry_parts}
-use Rattle.ix_closure.specs.Rising.{rises}
-use Rattle.ix_closure.specs.RisingLaws.{below_each, rises_parts, table_rises, table_each}
-use Rattle.ix_closure.specs.Apart.{AreApart, compares_two, is_proper}
+use Rattle.ix_fact_table.specs.declared.fact_table.FactTable.{FactTable}
+use Rattle.ix_fact_table.specs.FactTables.{facts_of}
+use Rattle.ix_fact_table.specs.FactOrder.{fact_cmp}
+use Rattle.ix_fact_table.specs.Entries.{in_first_order, is_first, has_ends, is_entry}
+use Rattle.ix_fact_table.specs.MeetLaws.{entry_parts}
+use Rattle.ix_fact_table.specs.Rising.{rises}
+use Rattle.ix_fact_table.specs.RisingLaws.{below_each, rises_parts, table_rises, table_each}
+use Rattle.ix_fact_table.specs.Apart.{AreApart, compares_two, is_proper}
 use Rattle.ix_store.specs.declared.known.Known.{Known}
 use Rattle.ix_store.specs.declared.store.Store.{Store}
 use Rattle.ix_store.specs.StoredFacts.{facts_in, stored_in, stored}

@@ -7,10 +7,10 @@ use Rattle.ix_core.specs.declared.fact.Fact.TheVariants.{Rng, LenRng, Low, Same,
 use Rattle.ix_facts.specs.Facts.{IsIn}
 use Rattle.ix_facts.specs.Small.{HasSmallNumbers}
 use Rattle.ix_facts.specs.Systems.{MayStand, HaveClasses}
-use Rattle.ix_closure.specs.FactTable.{FactTable}
-use Rattle.ix_closure.specs.FactTables.{facts_of}
-use Rattle.ix_closure.specs.TableLaws.{all_may}
-use Rattle.ix_closure.proofs.Searches.{in_place}
+use Rattle.ix_fact_table.specs.declared.fact_table.FactTable.{FactTable}
+use Rattle.ix_fact_table.specs.FactTables.{facts_of}
+use Rattle.ix_fact_table.specs.TableLaws.{all_may}
+use Rattle.ix_fact_table.proofs.KeySearches.{in_place}
 use Rattle.ix_store.specs.EmptyRanges.{is_empty, some_empty}
 use Rattle.ix_store.specs.StoreLaws.{each_full}
 

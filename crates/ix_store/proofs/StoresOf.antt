@@ -16,8 +16,8 @@ use Rattle.ix_facts.specs.Kinds.{of_kind}
 use Rattle.ix_facts.proofs.SystemLaws.{of_any}
 use Rattle.ix_facts.specs.Stores.{IsStoreOf, unreachable, reached, Unreachable, Reached}
 use Rattle.ix_facts.proofs.FactLists.{from_in_orders}
-use Rattle.ix_closure.specs.Saturated.{IsSaturated}
-use Rattle.ix_closure.proofs.RangesMet.{merges_follow}
+use Rattle.ix_fact_table.specs.Saturated.{IsSaturated}
+use Rattle.ix_fact_table.proofs.RangesMet.{merges_follow}
 use Rattle.ix_store.specs.EmptyRanges.{is_empty, some_empty, HasEmpty}
 use Rattle.ix_core.proofs.Cases.{by_test}
 use Rattle.ix_store.specs.StoreLaws.{each_full}

@@ -16,8 +16,8 @@ use Rattle.ix_facts.proofs.ClosureLaws.{follows_from, said_follows}
 use Rattle.ix_facts.proofs.FactLists.{in_left, in_right, in_either, from_in_orders}
 use Rattle.ix_facts.proofs.SaidLaws.{said_itself, said_turned, said_weaker}
 use Rattle.ix_facts.proofs.SystemLaws.{of_any, in_kind, kind_in, default_merges, in_orders_merges}
-use Rattle.ix_closure.specs.MeetLaws.{covers_key, key_kind}
-use Rattle.ix_closure.proofs.MergedTables.{merges_from}
+use Rattle.ix_fact_table.specs.MeetLaws.{covers_key, key_kind}
+use Rattle.ix_fact_table.proofs.MergedTables.{merges_from}
 
 -- ---- facts and then more
 

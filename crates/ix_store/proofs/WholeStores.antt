@@ -21,13 +21,13 @@ use Rattle.ix_facts.proofs.FactLists.{from_in_orders}
 use Rattle.ix_facts.proofs.SaidLaws.{said_itself, said_weaker, said_turned}
 use Rattle.ix_facts.proofs.SystemLaws.{default_merges, in_orders_merges}
 use Rattle.ix_facts.proofs.Tests.{at_most_true}
-use Rattle.ix_closure.specs.Apart.{AreApart, is_proper}
-use Rattle.ix_closure.specs.Entries.{in_first_order, has_ends}
-use Rattle.ix_closure.specs.EntryLaws.{may_stand}
-use Rattle.ix_closure.specs.FactOrder as keys
-use Rattle.ix_closure.specs.FactOrder.{fact_cmp, key_equal}
-use Rattle.ix_closure.specs.MeetLaws.{met_covered}
-use Rattle.ix_closure.proofs.KeysApart.{key_flips}
+use Rattle.ix_fact_table.specs.Apart.{AreApart, is_proper}
+use Rattle.ix_fact_table.specs.Entries.{in_first_order, has_ends}
+use Rattle.ix_fact_table.specs.EntryLaws.{may_stand}
+use Rattle.ix_fact_table.specs.FactOrder as keys
+use Rattle.ix_fact_table.specs.FactOrder.{fact_cmp, key_equal}
+use Rattle.ix_fact_table.specs.MeetLaws.{met_covered}
+use Rattle.ix_fact_table.proofs.KeysApart.{key_flips}
 use Rattle.ix_store.specs.WholeStores.{AreAStore}
 use Rattle.ix_store.proofs.StoresOf.{range_order, covers_rng, covers_len}
 

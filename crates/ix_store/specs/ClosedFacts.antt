@@ -4,8 +4,8 @@ use Rattle.std.specs.Ordering.{is_eq}
 use Rattle.ix_core.specs.declared.fact.Fact.{Fact}
 use Rattle.ix_facts.specs.Facts.{is_default, in_orders}
 use Rattle.ix_facts.specs.Closure.{Follows}
-use Rattle.ix_closure.specs.FactOrder.{fact_cmp}
-use Rattle.ix_closure.specs.Walks.{is_as_strong}
+use Rattle.ix_fact_table.specs.FactOrder.{fact_cmp}
+use Rattle.ix_fact_table.specs.Walks.{is_as_strong}
 
 -- at one key, and at least as strong
 abbrev pub covers : Fact → Fact → Bool

@@ -6,8 +6,8 @@ use Rattle.ix_facts.specs.Exact.{named_ints}
 use Rattle.ix_facts.specs.Facts.{in_orders}
 use Rattle.ix_fact_list.specs.NamedLaws.{AreAmong}
 use Rattle.ix_fact_list.specs.PutLaws.{IsRising}
-use Rattle.ix_closure.specs.FactTable.{FactTable}
-use Rattle.ix_closure.specs.FactTables.{facts_of, table_kind}
+use Rattle.ix_fact_table.specs.declared.fact_table.FactTable.{FactTable}
+use Rattle.ix_fact_table.specs.FactTables.{facts_of, table_kind}
 
 pub record IsOver (table : FactTable) (ints : List Path) (told plain : Bool) : Type 0 where
   pub kind : table_kind table ≡ kind.Any

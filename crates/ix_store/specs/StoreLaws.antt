@@ -11,13 +11,13 @@ use Rattle.ix_core.specs.declared.fact.Fact.TheVariants.{Rng, LenRng, Low, Same,
 use Rattle.ix_facts.specs.Facts.{IsIn}
 use Rattle.ix_facts.specs.Stores.{Stored, IsBelow, IsJoined, left, right, both}
 use Rattle.ix_facts.proofs.StoreLaws.{below_itself, below_below, joined_least}
-use Rattle.ix_closure.specs.FactTable.{FactTable}
-use Rattle.ix_closure.specs.FactOrder.{fact_cmp}
-use Rattle.ix_closure.specs.FactTables.{facts_of, table_rank, low_within, high_within, numbers_rank, keyed}
-use Rattle.ix_closure.specs.Entries.{has_ends}
-use Rattle.ix_closure.specs.MeetLaws.{entry_parts, two_ends}
-use Rattle.ix_closure.specs.RisingLaws.{table_each}
-use Rattle.ix_closure.specs.TableLaws.{table_laws, above_left, above_right}
+use Rattle.ix_fact_table.specs.declared.fact_table.FactTable.{FactTable}
+use Rattle.ix_fact_table.specs.FactOrder.{fact_cmp}
+use Rattle.ix_fact_table.specs.FactTables.{facts_of, table_rank, low_within, high_within, numbers_rank, keyed}
+use Rattle.ix_fact_table.specs.Entries.{has_ends}
+use Rattle.ix_fact_table.specs.MeetLaws.{entry_parts, two_ends}
+use Rattle.ix_fact_table.specs.RisingLaws.{table_each}
+use Rattle.ix_fact_table.specs.TableLaws.{table_laws, above_left, above_right}
 use Rattle.ix_core.proofs.Cases.{by_test}
 use Rattle.ix_facts.proofs.Tests.{neither}
 use Rattle.ix_store.specs.declared.known.Known.{Known}

@@ -1,7 +1,7 @@
 -- The order of stores and their rank.
 use Rattle.std.specs.Prelude.{ℕ, ◌*◌, ◌^◌, Option, Some, None}
 use Rattle.ix_facts.specs.Stores.{IsBelow}
-use Rattle.ix_closure.specs.FactTables.{table_rank}
+use Rattle.ix_fact_table.specs.FactTables.{table_rank}
 use Rattle.ix_store.specs.declared.known.Known.{Known}
 use Rattle.ix_store.specs.declared.store.Store.{Store}
 use Rattle.ix_store.specs.StoredFacts.{stored}

@@ -3,7 +3,7 @@ use Rattle.std.specs.Prelude.{◌≡◌, true, List}
 use Rattle.std.specs.List.{list_all}
 use Rattle.ix_core.specs.declared.fact.Fact.{Fact}
 use Rattle.ix_facts.specs.Stores.{IsClosedStore, Reached}
-use Rattle.ix_closure.specs.Apart.{AreApart, is_proper}
+use Rattle.ix_fact_table.specs.Apart.{AreApart, is_proper}
 
 -- The facts, in any order, each once, are all facts of a store.
 pub record AreAStore (facts : List Fact) : Type 0 where

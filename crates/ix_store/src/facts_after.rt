@@ -10,16 +10,16 @@ ghost use Rattle.ix_facts.specs.Systems.{HaveClasses};
 ghost use Rattle.ix_facts.specs.SameFacts.{AreSame};
 ghost use Rattle.ix_store.specs.NewFacts.{after_new, copy_new};
 ghost use Rattle.ix_store.specs.StoredFacts.{facts_in};
-ghost use Rattle.ix_outcomes.specs.OverGroups.{outcome_of};
+ghost use Rattle.ix_test_facts.specs.OverGroups.{outcome_of};
 
 use crate::known::{FEW, Known};
 use crate::limited::Limited;
-use ix_after::{facts_after, facts_of_copy, push_claim};
-use ix_changes::{Changed, rounded_facts, unchanged};
 use ix_core::{Fact, OpKind, Path, PathClaim, Profile, Type_};
 use ix_fact_list::FactList;
+use ix_fact_paths::{Changed, rounded_facts, unchanged};
 use ix_facts::Arith;
-use ix_outcomes::{Outcome, facts_of_outcome, push_fact, push_less, push_upper};
+use ix_test_facts::{Outcome, facts_of_outcome, push_fact, push_less, push_upper};
+use ix_transfer::{facts_after, facts_of_copy, push_claim};
 use std::alloc::{AllocError, Global};
 
 fn push_kept(out: &mut Vec<Fact>, fact: &Fact) -> Result<(), AllocError>

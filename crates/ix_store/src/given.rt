@@ -4,14 +4,14 @@ ghost use Rattle.std.specs.Prelude.{◌≡◌, ◌↔◌, true, IsTrue, IfOk, If
 ghost use Rattle.std.specs.List.{list_all};
 ghost use Rattle.ix_facts.specs.Stores.{Reached, SayTheSame, IsStoreOf};
 ghost use Rattle.ix_facts.specs.Systems.{HaveClasses, IsTable};
-ghost use Rattle.ix_closure.specs.Apart.{AreApart, is_proper};
-ghost use Rattle.ix_closure.specs.FactTables.{facts_of};
+ghost use Rattle.ix_fact_table.specs.Apart.{AreApart, is_proper};
+ghost use Rattle.ix_fact_table.specs.FactTables.{facts_of};
 ghost use Rattle.ix_store.specs.StoredFacts.{stored};
 ghost use Rattle.ix_store.specs.WholeStores.{AreAStore};
 
 use crate::store::Store;
-use ix_closure::{FactTable, are_apart, are_proper};
 use ix_core::Fact;
+use ix_fact_table::{FactTable, are_apart, are_proper};
 use ix_facts::Kind;
 use std::alloc::{AllocError, Global};
 

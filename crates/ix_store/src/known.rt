@@ -7,13 +7,13 @@ ghost use Rattle.ix_facts.specs.Facts.{in_orders};
 ghost use Rattle.ix_fact_list.specs.Ends.{ends_in};
 ghost use Rattle.ix_fact_list.specs.Links.{links_in};
 ghost use Rattle.ix_fact_list.specs.ByPath.{put_all};
-ghost use Rattle.ix_closure.specs.FactTables.{facts_of, table_kind};
+ghost use Rattle.ix_fact_table.specs.FactTables.{facts_of, table_kind};
 ghost use Rattle.ix_store.specs.ClosedFacts.{AreClosed};
 ghost use Rattle.ix_store.specs.EmptyRanges.{some_empty};
 ghost use Rattle.ix_store.specs.Orders.{ordered_by};
 
-use ix_closure::{FactTable, Row};
 use ix_core::Path;
+use ix_fact_table::{FactTable, Row};
 
 /// Up to how many facts are few: to go over them costs less than an index of them.
 pub(crate) const FEW: usize = 16;

@@ -2,9 +2,9 @@
 //!
 //! What goes in: facts, an operation, a copy, a claim, what a test tells, what a step may change, landmarks. What comes out: the store behind it, whether a claim is proved, and a store's facts and the bounds that they give.
 //! The contract: the stores of `ix_facts`: behind a rule stands the closed store of what the rule gives of the facts before. A store meets `Know`.
-//! It stands on `ix_closure` for what follows from facts and for tables, on `ix_changes` for what a step may change, on `ix_after`, `ix_outcomes` and `ix_rules` for rules.
+//! It stands on `ix_fact_table` for what follows from facts and for tables, on `ix_fact_paths` for what a step may change, on `ix_transfer`, `ix_test_facts` and `ix_transfer_rules` for rules.
 //! It never looks at the program but for the operation that it is told.
-#![tactic(auto, using(std::proofs::lemmas::List::append_assoc, ix_exact::specs::KeptLaws::kept_joined, ix_exact::specs::KeptLaws::same_int))]
+#![tactic(auto, using(std::proofs::lemmas::List::append_assoc, ix_intervals::specs::KeptLaws::kept_joined, ix_intervals::specs::KeptLaws::same_int))]
 
 mod closed;
 mod facts_after;
@@ -22,5 +22,5 @@ mod seen;
 mod store;
 
 pub use ix_core::Test;
-pub use ix_outcomes::{Outcome, outcomes};
+pub use ix_test_facts::{Outcome, outcomes};
 pub use store::Store;

@@ -4,9 +4,9 @@ ghost use Rattle.std.specs.Prelude.{◌≡◌, IsTrue, IfOk};
 ghost use Rattle.ix_facts.specs.Facts.{in_orders};
 ghost use Rattle.ix_store.specs.Orders.{ordered_by};
 
-use ix_closure::Row;
 use ix_core::Fact;
 use ix_fact_list::{have_one_order, in_all_orders};
+use ix_fact_table::Row;
 use std::alloc::{AllocError, Global};
 
 /// Up to how many facts a list keeps the room that it was made in: to copy it takes more time than that room is worth.

@@ -6,21 +6,21 @@ ghost use Rattle.ix_facts.specs.Closure.{Closed, IsClosedOf};
 ghost use Rattle.ix_facts.specs.Stores.{Unreachable, Reached, IsStoreOf, IsAfter, IsCopied, IsTold, IsAssumed, IsAdded, IsForgotten, IsRounded, IsProved};
 ghost use Rattle.ix_facts.specs.Systems.{HaveClasses};
 ghost use Rattle.ix_facts.specs.Forget.{without, of_path, of_field, of_call};
-ghost use Rattle.ix_changes.specs.ChangedPaths.{is_spared, is_final, of_called, of_parent, is_changed};
-ghost use Rattle.ix_closure.specs.FactTables.{facts_of};
+ghost use Rattle.ix_fact_paths.specs.ChangedPaths.{is_spared, is_final, of_called, of_parent, is_changed};
+ghost use Rattle.ix_fact_table.specs.FactTables.{facts_of};
 ghost use Rattle.ix_store.specs.StoredFacts.{facts_in, stored};
 ghost use Rattle.ix_store.specs.StoreOrder.{nowhere};
-ghost use Rattle.ix_outcomes.specs.OverGroups.{outcome_of};
+ghost use Rattle.ix_test_facts.specs.OverGroups.{outcome_of};
 
 use crate::facts_after::{assumed, kept_facts};
 use crate::known::Known;
 use crate::over::TableOver;
 use crate::store::Store;
-use ix_changes::Changed;
-use ix_claims::is_proved;
+use ix_bounds::is_proved;
 use ix_core::{Fact, OpKind, Path, PathClaim, Profile, Program, Type_};
+use ix_fact_paths::Changed;
 use ix_facts::Landmarks;
-use ix_outcomes::Outcome;
+use ix_test_facts::Outcome;
 use ix_text::Joint;
 use std::alloc::{AllocError, Global};
 

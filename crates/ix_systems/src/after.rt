@@ -10,10 +10,10 @@ ghost use Rattle.ix_facts.specs.Systems.{HaveClasses};
 ghost use Rattle.ix_facts.specs.SameFacts.{AreSame};
 
 use crate::known::all_known;
-use ix_after::{facts_after, facts_of_copy};
 use ix_core::{Fact, OpKind, Path, Profile, Type_};
 use ix_fact_list::FactList;
 use ix_facts::Know;
+use ix_transfer::{facts_after, facts_of_copy};
 use std::alloc::{AllocError, Global};
 
 /// The new facts of an operation: what its own rule gives, and what follows of that with what is known. Nothing that is known may name its target. The

@@ -1,29 +1,29 @@
 -- What an obeyed command leaves is what a call of the tool promises.
 use Rattle.std.proofs.Common.{◌≡◌, ◌≢◌, ◌⊎◌, inl, inr, ℕ, Bool, true, List, [], ◌++◌, append-nil, Option, Some, None, ap, sym, subst, ◌∙◌, refl}
-use Rattle.ix_answer.specs.declared.status.Status.{Status}
-use Rattle.ix_answer.specs.declared.status.Status.TheVariants.{Done, Rejected, Usage, ReadFault, WriteFault, Limit, Memory, Stopped, StepsSpent, InputsRefused}
+use Rattle.ix_replies.specs.declared.status.Status.{Status}
+use Rattle.ix_replies.specs.declared.status.Status.TheVariants.{Done, Rejected, Usage, ReadFault, WriteFault, Limit, Memory, Stopped, StepsSpent, InputsRefused}
 use Rattle.std.specs.Prelude.{Result, Ok, Err, IfOk, unwrap_or}
 use Rattle.std.specs.declared.alloc.AllocError.{AllocError}
-use Rattle.ix_answer.specs.declared.reply.Reply.{Reply}
-use Rattle.ix_answer.specs.Replies.{Says, shown as shown_reply}
-use Rattle.ix_answer.specs.Statuses.{is_answer}
-use Rattle.ix_answer.specs.Answer.{Answer, err_answer}
-use Rattle.ix_answer.specs.Delivery.{Sinks, Delivers, RoseOne}
-use Rattle.ix_answer.specs.Ends.{Texts, EndsWell, TookPart, TookWanted, TookNothing}
+use Rattle.ix_replies.specs.declared.written_reply.Reply.{Reply}
+use Rattle.ix_replies.specs.Replies.{Says, shown as shown_reply}
+use Rattle.ix_replies.specs.Statuses.{is_answer}
+use Rattle.ix_replies.specs.Answer.{Answer, err_answer}
+use Rattle.ix_replies.specs.Delivery.{Sinks, Delivers, RoseOne}
+use Rattle.ix_replies.specs.Ends.{Texts, EndsWell, TookPart, TookWanted, TookNothing}
 use Rattle.ix_outside.specs.Outside.{Files, bytes_under, Rose, Took, TookPrefix}
 use Rattle.ix_outside.specs.Reading.{IsAllOrPast, most_bytes}
 use Rattle.ix_outside.proofs.PrefixesTaken.{TookPrefix-none}
 use Rattle.ix_words.specs.declared.values.Sums.{Sums}
 use Rattle.ix_words.specs.Commands.{Command, Check, Run, Bench, Verify, Guard}
-use Rattle.ix_answering.specs.Answers.{Answers, IsVerdict}
+use Rattle.ix_commands.specs.Answers.{Answers, IsVerdict}
 use Rattle.ix_read_inputs.specs.Sources.{AsksCert, NeedsCert, file_in, cert_in, file_of, cert_of, source_name, source_bytes, judged_bytes}
 use Rattle.ix_replies.specs.Said.{read_failed}
 use Rattle.ix_read_inputs.specs.Opened.{WasUnread, bytes_of, cert_bytes_of, last_of}
 use Rattle.ix_tool.specs.Ends.{EndsUnread, TookUnread}
-use Rattle.ix_answering.specs.Promises.{SafeBytes, SafeOnMachine, SafeBy, Promises}
+use Rattle.ix_commands.specs.Promises.{SafeBytes, SafeOnMachine, SafeBy, Promises}
 use Rattle.ix_tool.specs.Inputs.{Obeys}
-use Rattle.ix_answering.specs.Judgements.{profile_of}
-use Rattle.ix_answering.proofs.Answered.{IsCertRead, read_right, verdict_answers, other_status}
+use Rattle.ix_commands.specs.Judgements.{profile_of}
+use Rattle.ix_commands.proofs.Answered.{IsCertRead, read_right, verdict_answers, other_status}
 
 abbrev unread_answer : List ℕ → Answer
 unread_answer file = err_answer ReadFault (read_failed file)

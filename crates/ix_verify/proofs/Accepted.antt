@@ -13,16 +13,16 @@ use Rattle.ix_facts.proofs.StoreLaws.{below_below}
 use Rattle.ix_flow.specs.Flow.{Point, Rules, RulesLaws, IsFlow, IsLeastFlow, Anything, Avoids}
 use Rattle.ix_flow.specs.Given.{judging, IsDerivedAt}
 use Rattle.ix_flow.proofs.GivenLabels.{all_judged}
-use Rattle.ix_audit.specs.MethodRules.{method_rules}
-use Rattle.ix_audit.proofs.ErrorsWeaker.{errors_weaker}
-use Rattle.ix_audit.proofs.MethodLaws.{method_laws}
-use Rattle.ix_audit.specs.Ranked.{Ranked}
-use Rattle.ix_audit.specs.Errors.{NoErrors}
+use Rattle.ix_errors.specs.MethodRules.{method_rules}
+use Rattle.ix_errors.proofs.ErrorsWeaker.{errors_weaker}
+use Rattle.ix_errors.proofs.MethodLaws.{method_laws}
+use Rattle.ix_errors.specs.declared.ranked.Ranked.{Ranked}
+use Rattle.ix_soundness.specs.Errors.{NoErrors}
 use Rattle.ix_cert.specs.Labellings.{loops_of}
 use Rattle.ix_cert.specs.SameLabels.{SameForMethod, SameLabels}
 use Rattle.ix_cert.proofs.FormedLoops.{HasFormedLoops, formed_loops}
-use Rattle.ix_audit.specs.AtLabels.{Derives, label_of, FailsAt, IsErrorAt}
-use Rattle.ix_audit.specs.Audited.{labels_of}
+use Rattle.ix_verify.specs.AtLabels.{Derives, label_of, FailsAt, IsErrorAt}
+use Rattle.ix_verify.specs.Audited.{labels_of}
 use Rattle.ix_verify.specs.Flawless.{AreFlawless, AreLeastFlawless, AreAccepted}
 use Rattle.ix_verify.proofs.FlowsBelow.{Matches, lawful, flow_below}
 use Rattle.ix_verify.proofs.Loops.{each_loop}

@@ -13,19 +13,19 @@ use Rattle.ix_facts.specs.Stores.{Stored, IsBelow, SayTheSame}
 use Rattle.ix_flow.specs.Flow.{Point, Rules, RulesLaws, IsFlow, Anything, Avoids}
 use Rattle.ix_flow.specs.Given.{judging, numbered}
 use Rattle.ix_flow.proofs.GivenLabels.{all_judged}
-use Rattle.ix_audit.specs.MethodRules.{method_rules}
-use Rattle.ix_audit.proofs.ErrorsWeaker.{errors_weaker}
-use Rattle.ix_audit.proofs.MethodLaws.{method_laws}
-use Rattle.ix_audit.specs.Ranked.{Ranked}
-use Rattle.ix_audit.specs.ErrorList.{HasRank, IsErrorList}
-use Rattle.ix_audit.specs.Lists.{one_list, none_derived}
+use Rattle.ix_errors.specs.MethodRules.{method_rules}
+use Rattle.ix_errors.proofs.ErrorsWeaker.{errors_weaker}
+use Rattle.ix_errors.proofs.MethodLaws.{method_laws}
+use Rattle.ix_errors.specs.declared.ranked.Ranked.{Ranked}
+use Rattle.ix_errors.specs.ErrorList.{HasRank, IsErrorList}
+use Rattle.ix_errors.proofs.Lists.{one_list, none_derived}
 use Rattle.ix_cert.specs.Labellings.{loops_of}
 use Rattle.ix_cert.specs.SameLabels.{SameStores, SameForMethod, SameLabels}
 use Rattle.ix_cert.proofs.FormedLoops.{HasFormedLoops, formed_loops}
-use Rattle.ix_audit.specs.declared.answer.Audit.{Audit}
-use Rattle.ix_audit.specs.declared.answer.Audit.TheVariants as audit
-use Rattle.ix_audit.specs.AtLabels.{Derives, label_of, FailsAt, IsErrorAt}
-use Rattle.ix_audit.specs.Audited.{labels_of, FailsIn, IsErrorBelow, IsAudit}
+use Rattle.ix_verify.specs.declared.audit_answer.Audit.{Audit}
+use Rattle.ix_verify.specs.declared.audit_answer.Audit.TheVariants as audit
+use Rattle.ix_verify.specs.AtLabels.{Derives, label_of, FailsAt, IsErrorAt}
+use Rattle.ix_verify.specs.Audited.{labels_of, FailsIn, IsErrorBelow, IsAudit}
 use Rattle.ix_verify.specs.Alike.{AreSame}
 use Rattle.ix_verify.proofs.FlowsBelow.{Matches, judging_suits, flow_below}
 use Rattle.ix_verify.proofs.Loops.{each_loop}

@@ -10,11 +10,11 @@ use Rattle.ix_core.specs.Formed.{Formed, is_formed}
 use Rattle.ix_core.specs.Safe.{Safe}
 use Rattle.ix_facts.specs.Stores.{Stored}
 use Rattle.ix_cert.specs.Labellings.{IsLabelling}
-use Rattle.ix_audit.specs.Sound.{HasNoErrors}
+use Rattle.ix_soundness.specs.Sound.{HasNoErrors}
 use Rattle.ix_core.specs.Ready.{LocalsApart}
-use Rattle.ix_audit.specs.declared.answer.Audit.{Audit}
-use Rattle.ix_audit.specs.declared.answer.Audit.TheVariants as audit
-use Rattle.ix_audit.specs.Audited.{IsAudit}
+use Rattle.ix_verify.specs.declared.audit_answer.Audit.{Audit}
+use Rattle.ix_verify.specs.declared.audit_answer.Audit.TheVariants as audit
+use Rattle.ix_verify.specs.Audited.{IsAudit}
 use Rattle.ix_verify.specs.Flawless.{AreFlawless}
 use Rattle.ix_verify.proofs.Accepted.{flawless_accepted}
 use Rattle.ix_verify.specs.declared.answer.CertError.{CertError}

@@ -6,6 +6,21 @@ mod FlowsBelow
 mod Same
 pub mod Accepted
 pub mod Alike
+mod Bodies
+mod Items
+mod Labels
+mod LastItem
+mod Listing
+mod Lists
+mod Methods
+mod OneLandmarks
+mod Programs
+mod Results
+mod Stores
+mod TextItems
 -- Passed on from ix_cert.
 pub use Rattle.ix_cert.proofs.OneMeaning
 pub use Rattle.ix_cert.proofs.SmallPaths
+-- Passed on from ix_errors.
+pub use Rattle.ix_errors.proofs.ErrorsWeaker
+pub use Rattle.ix_errors.proofs.MethodLaws

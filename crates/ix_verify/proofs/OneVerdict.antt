@@ -10,9 +10,9 @@ use Rattle.ix_cert.specs.Labellings.{IsLabelling}
 use Rattle.ix_cert.specs.SameLabels.{HasSmallPaths, SameLabels}
 use Rattle.ix_cert.proofs.OneMeaning.{one_meaning}
 use Rattle.ix_cert.proofs.SmallPaths.{formed_small}
-use Rattle.ix_audit.specs.declared.answer.Audit.{Audit}
-use Rattle.ix_audit.specs.declared.answer.Audit.TheVariants as audit
-use Rattle.ix_audit.specs.Audited.{IsAudit}
+use Rattle.ix_verify.specs.declared.audit_answer.Audit.{Audit}
+use Rattle.ix_verify.specs.declared.audit_answer.Audit.TheVariants as audit
+use Rattle.ix_verify.specs.Audited.{IsAudit}
 use Rattle.ix_verify.specs.Alike.{AreSame}
 use Rattle.ix_verify.specs.Flawless.{AreAccepted}
 use Rattle.ix_verify.proofs.Alike.{judged_alike}

@@ -1,7 +1,7 @@
 -- Answers of audits that say the same.
 use Rattle.std.specs.Prelude.{◌≡◌}
-use Rattle.ix_audit.specs.declared.answer.Audit.{Audit}
-use Rattle.ix_audit.specs.declared.answer.Audit.TheVariants.{Clean, Loop, Errors}
+use Rattle.ix_verify.specs.declared.audit_answer.Audit.{Audit}
+use Rattle.ix_verify.specs.declared.audit_answer.Audit.TheVariants.{Clean, Loop, Errors}
 
 abbrev pub AreSame : Audit → Audit → Type 0
 AreSame Clean Clean = Unit {0}

@@ -6,11 +6,11 @@ use Rattle.ix_core.specs.declared.program.Program.{Program}
 use Rattle.ix_core.specs.Tables.{method_at, body_of}
 use Rattle.ix_facts.specs.Stores.{Stored}
 use Rattle.ix_flow.specs.Flow.{IsFlow, IsLeastFlow, IsDerived}
-use Rattle.ix_audit.specs.MethodRules.{method_rules}
-use Rattle.ix_audit.specs.RuleErrors.{TextErrors}
-use Rattle.ix_audit.specs.Errors.{NoErrors}
-use Rattle.ix_audit.specs.AtLabels.{Derives}
-use Rattle.ix_audit.specs.Audited.{NoneFails, IsErrorBelow}
+use Rattle.ix_errors.specs.MethodRules.{method_rules}
+use Rattle.ix_errors.specs.RuleErrors.{TextErrors}
+use Rattle.ix_soundness.specs.Errors.{NoErrors}
+use Rattle.ix_verify.specs.AtLabels.{Derives}
+use Rattle.ix_verify.specs.Audited.{NoneFails, IsErrorBelow}
 
 module _ (program : Program) (profile : Profile) where
   -- The stores are labels with which a flow of the method has no error at any point; and its text gives none.

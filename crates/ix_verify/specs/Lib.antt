@@ -4,12 +4,23 @@ pub mod Verdicts
 pub mod Flawless
 -- Answers of audits that say the same.
 pub mod Alike
--- Passed on from ix_audit.
-pub use Rattle.ix_audit.specs.Audited
-pub use Rattle.ix_audit.specs.declared.answer.Audit
-pub use Rattle.ix_audit.specs.Sound
+-- What is wrong with a method at given labels.
+pub mod AtLabels
+-- What is wrong with a program.
+pub mod Audited
+-- The walk over a body, as the code has it.
+pub mod Walking
+-- Passed on from ix_soundness.
+pub use Rattle.ix_soundness.specs.Sound
+pub use Rattle.ix_soundness.specs.Errors
 -- Passed on from ix_cert.
 pub use Rattle.ix_cert.specs.Store
 pub use Rattle.ix_cert.specs.StoredFacts
 pub use Rattle.ix_cert.specs.Labellings
 pub use Rattle.ix_cert.specs.SameLabels
+-- Passed on from ix_errors.
+pub use Rattle.ix_errors.proofs.Lists
+pub use Rattle.ix_errors.specs.declared.ranked.Ranked
+pub use Rattle.ix_errors.specs.ErrorList
+pub use Rattle.ix_errors.specs.MethodRules
+pub use Rattle.ix_errors.specs.RuleErrors

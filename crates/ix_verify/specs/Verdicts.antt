@@ -8,8 +8,8 @@ use Rattle.ix_core.specs.declared.program.Program.{Program}
 use Rattle.ix_facts.specs.Stores.{Stored}
 use Rattle.ix_cert.specs.Labellings.{IsLabelling, loops_of}
 use Rattle.ix_core.specs.Ready.{LocalsApart}
-use Rattle.ix_audit.specs.declared.answer.Audit.TheVariants as audit
-use Rattle.ix_audit.specs.Audited.{CanAudit, IsAudit}
+use Rattle.ix_verify.specs.declared.audit_answer.Audit.TheVariants as audit
+use Rattle.ix_verify.specs.Audited.{CanAudit, IsAudit}
 use Rattle.ix_verify.specs.declared.answer.CertError.{CertError}
 use Rattle.ix_verify.specs.declared.answer.CertError.TheVariants.{Form, Loop, Rule, Memory}
 use Rattle.ix_verify.specs.declared.answer.Verified.{Verified}

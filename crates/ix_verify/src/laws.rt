@@ -6,8 +6,8 @@ ghost use Rattle.ix_core.specs.declared.program.Program.{Program};
 ghost use Rattle.ix_core.specs.Formed.{Formed};
 ghost use Rattle.ix_facts.specs.Stores.{Stored};
 ghost use Rattle.ix_cert.specs.SameLabels.{SameLabels};
-ghost use Rattle.ix_audit.specs.declared.answer.Audit.{Audit};
-ghost use Rattle.ix_audit.specs.Audited.{IsAudit};
+ghost use Rattle.ix_verify.specs.declared.audit_answer.Audit.{Audit};
+ghost use Rattle.ix_verify.specs.Audited.{IsAudit};
 ghost use Rattle.ix_verify.specs.Alike.{AreSame};
 ghost use Rattle.ix_verify.specs.Flawless.{AreAccepted, AreFlawless, AreLeastFlawless};
 

@@ -13,9 +13,12 @@ ghost use Rattle.ix_verify.specs.Verdicts as spec;
 ghost use Rattle.ix_verify.specs.Verdicts.{CanVerify, IsVerified, IsRefused, labels_in};
 
 use crate::answer::{CertError, Verified};
-use ix_audit::{Audit, Store, audit, soundness};
+use crate::audit_answer::Audit;
+use crate::audited::audit;
 use ix_cert::read;
 use ix_core::{Error, List, Method, Profile, Program};
+use ix_errors::Store;
+use ix_soundness::soundness;
 use std::alloc::{AllocError, Global};
 
 /// How many of a method's labels stand in a text.

@@ -2,8 +2,8 @@ use Rattle.std.proofs.Common.{rules, ◌≡◌, ℕ, List, length, map, slice_ge
 use Rattle.std.proofs.lemmas.Result.{IfOk-weaker}
 use Rattle.ix_core.specs.Tables.{method_at}
 use Rattle.ix_check.specs.LoopLabels.{AreLoopLabels}
-use Rattle.ix_least.specs.Store.{Store}
-use Rattle.ix_least.specs.StoredFacts.{stored}
+use Rattle.ix_cert.specs.Store.{Store}
+use Rattle.ix_cert.specs.StoredFacts.{stored}
 use Rattle.ix_certify.proofs.Least.{all_least}
 use Rattle.ix_certify.proofs.writing.certificate.Goals as goal
 

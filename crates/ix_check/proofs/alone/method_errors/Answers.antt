@@ -1,7 +1,7 @@
 use Rattle.std.proofs.lemmas.Result.{IfOk-weaker}
 use Rattle.ix_core.specs.Tables.{method_at}
 use Rattle.ix_check.specs.MethodErrors.{IsErrorOf}
-use Rattle.ix_method_errors.proofs.Lists.{same_list}
+use Rattle.ix_errors.proofs.Lists.{same_list}
 use Rattle.ix_check.specs.Signatures.{signatures, ErrorsOf}
 use Rattle.ix_check.proofs.alone.method_errors.Goals as goal
 

@@ -2,7 +2,7 @@ use Rattle.std.proofs.Common.{◌<◌, ◌⊎◌, length, sym, subst}
 use Rattle.std.proofs.lemmas.Result.{on_ok_weaker}
 use Rattle.ix_core.specs.declared.program.Method.{Method}
 use Rattle.ix_labels.specs.RuleErrors.{OverridesBy}
-use Rattle.ix_method_errors.specs.Exactly.{AddsExactly}
+use Rattle.ix_errors.specs.Exactly.{AddsExactly}
 use Rattle.ix_labels.specs.Naming.{HasSmallNames}
 use Rattle.ix_labels.specs.SignErrors.{OverrideParameter, OverrideResult, OverrideEffect}
 use Rattle.ix_check.proofs.Added.{method_is}

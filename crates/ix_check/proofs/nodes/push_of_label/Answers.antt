@@ -1,7 +1,7 @@
 use Rattle.std.proofs.Common.{sym, subst}
 use Rattle.ix_graph.specs.Built.{kind_of}
-use Rattle.ix_method_errors.specs.Exactly.{AddsExactly}
-use Rattle.ix_method_errors.proofs.Refused.{adds_both}
+use Rattle.ix_errors.specs.Exactly.{AddsExactly}
+use Rattle.ix_errors.proofs.Refused.{adds_both}
 use Rattle.ix_labels.specs.StoredFacts.{stored}
 use Rattle.ix_check.specs.NodeErrors.{LabelGives}
 use Rattle.ix_check.proofs.Added.{three_ok}

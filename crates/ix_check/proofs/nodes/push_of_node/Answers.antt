@@ -1,4 +1,4 @@
-use Rattle.ix_method_errors.proofs.Refused.{adds_both}
+use Rattle.ix_errors.proofs.Refused.{adds_both}
 use Rattle.ix_text.proofs.Chained.{both_ok}
 use Rattle.ix_check.proofs.nodes.push_of_node.Goals as goal
 

@@ -5,7 +5,7 @@ use Rattle.ix_labels.specs.Filled.{nodes_of, IsLabel}
 use Rattle.ix_labels.specs.Runs.{node_in_turn}
 use Rattle.ix_labels.specs.StoredFacts.{stored}
 use Rattle.ix_labels.proofs.Filling.{AreMade, none_made, one_made, last_label, ordered, all_filled}
-use Rattle.ix_method_errors.specs.Exactly.{AddsExactly}
+use Rattle.ix_errors.specs.Exactly.{AddsExactly}
 use Rattle.ix_check.specs.NodeErrors.{NodeGives}
 use Rattle.ix_check.proofs.Added.{AtTurn, adds_none, none_yet, next_made, all_made}
 use Rattle.ix_check.proofs.nodes.push_of_nodes.Goals as goal

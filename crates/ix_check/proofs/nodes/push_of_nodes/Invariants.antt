@@ -2,7 +2,7 @@ use Rattle.std.proofs.Common.{◌≡◌, List}
 use Rattle.ix_labels.specs.Filled.{nodes_of}
 use Rattle.ix_labels.specs.Store.{Store}
 use Rattle.ix_labels.proofs.Filling.{AreMade, before_in}
-use Rattle.ix_method_errors.specs.Exactly.{AddsExactly}
+use Rattle.ix_errors.specs.Exactly.{AddsExactly}
 use Rattle.ix_check.specs.NodeErrors.{NodeGives}
 use Rattle.ix_check.proofs.Added.{AtTurn}
 use Rattle.ix_check.proofs.nodes.push_of_nodes.Given as goal

@@ -1,5 +1,5 @@
 use Rattle.std.proofs.Common.{◌≡◌, ◌+◌, ◌≤◌, []}
-use Rattle.ix_method_errors.specs.Exactly.{AreExactly}
+use Rattle.ix_errors.specs.Exactly.{AreExactly}
 use Rattle.ix_check.specs.MethodErrors.{IsErrorBelow, HaveNone, nodes_below}
 use Rattle.ix_check.specs.Visits.{VisitsOfFirst}
 use Rattle.ix_check.proofs.program.program_errors.Given as goal

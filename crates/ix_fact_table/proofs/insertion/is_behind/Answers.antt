@@ -1,5 +1,5 @@
 use Rattle.std.proofs.Common.{sym, ◌∙◌}
-use Rattle.ix_fact_table.proofs.Searches.{behind_last, behind_none}
+use Rattle.ix_fact_table.proofs.KeySearches.{behind_last, behind_none}
 use Rattle.ix_fact_table.proofs.insertion.is_behind.Goals as goal
 
 pub returns-in-Some : goal.returns-in-Some

@@ -6,7 +6,7 @@ use Rattle.ix_core.specs.declared.fact.Path.TheVariants.{Slot}
 use Rattle.ix_core.specs.declared.fact.Fact.TheVariants.{Rng}
 use Rattle.ix_fact_table.specs.Piles.{ArePiles}
 use Rattle.ix_fact_table.proofs.PiledFacts.{no_piles}
-use Rattle.ix_fact_table.proofs.Searches.{in_place}
+use Rattle.ix_fact_table.proofs.KeySearches.{in_place}
 use Rattle.ix_fact_table.proofs.insertion.piles.Goals as goal
 
 pub loop-fact-init : goal.loop-fact-init

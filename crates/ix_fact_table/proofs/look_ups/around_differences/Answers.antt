@@ -1,7 +1,7 @@
 use Rattle.std.proofs.Common.{sym, ap, subst, ◌++◌, ◌∙◌}
 use Rattle.ix_facts.specs.Facts.{IsIn}
 use Rattle.ix_facts.proofs.FactLists.{in_left}
-use Rattle.ix_fact_table.proofs.Searches.{difference_is}
+use Rattle.ix_fact_table.proofs.KeySearches.{difference_is}
 use Rattle.ix_fact_table.proofs.look_ups.around_differences.Goals as goal
 
 pub returns-clause-whole : goal.returns-clause-whole

@@ -3,7 +3,7 @@ use Rattle.std.proofs.lemmas.Fn.{always_returns_same}
 use Rattle.ix_facts.specs.Facts.{IsIn}
 use Rattle.ix_fact_table.specs.FactOrder.{comes_before}
 use Rattle.ix_fact_table.specs.Rising.{rises}
-use Rattle.ix_fact_table.proofs.Searches.{back_is, whole_is, rest_rises}
+use Rattle.ix_fact_table.proofs.KeySearches.{back_is, whole_is, rest_rises}
 use Rattle.ix_fact_table.proofs.look_ups.before_differences.Goals as goal
 
 pub returns-clause-whole : goal.returns-clause-whole

@@ -2,7 +2,7 @@ use Rattle.std.proofs.Common.{rules, sym, ap, subst, ◌++◌, ◌∙◌, drop}
 use Rattle.std.proofs.lemmas.Fn.{always_returns_same}
 use Rattle.ix_facts.specs.Facts.{IsIn}
 use Rattle.ix_fact_table.specs.FactOrder.{comes_before}
-use Rattle.ix_fact_table.proofs.Searches.{front_is, whole_is}
+use Rattle.ix_fact_table.proofs.KeySearches.{front_is, whole_is}
 use Rattle.ix_fact_table.proofs.look_ups.before_searches.Goals as goal
 
 pub returns-clause-whole : goal.returns-clause-whole

@@ -4,7 +4,7 @@ use Rattle.ix_core.specs.declared.fact.Fact.TheVariants.{Search}
 use Rattle.ix_facts.specs.Facts.{IsIn}
 use Rattle.ix_fact_table.specs.FactOrder.{comes_before}
 use Rattle.ix_fact_table.proofs.MergedTables.{in_drop}
-use Rattle.ix_fact_table.proofs.Searches.{searches_are}
+use Rattle.ix_fact_table.proofs.KeySearches.{searches_are}
 use Rattle.ix_fact_table.proofs.look_ups.from_searches.Goals as goal
 
 pub returns-clause-all : goal.returns-clause-all

@@ -1,7 +1,7 @@
 use Rattle.std.proofs.Common.{rules}
 use Rattle.std.proofs.lemmas.Fn.{always_returns_same}
 use Rattle.ix_fact_table.specs.FactOrder.{fact_cmp}
-use Rattle.ix_fact_table.proofs.Searches.{found_at, none_at}
+use Rattle.ix_fact_table.proofs.KeySearches.{found_at, none_at}
 use Rattle.ix_fact_table.proofs.look_ups.place_of.Goals as goal
 
 pub returns-in-Ok-clause-found : goal.returns-in-Ok-clause-found

@@ -1,7 +1,7 @@
 use Rattle.std.proofs.Common.{rules, ◌∙◌}
 use Rattle.std.proofs.lemmas.Fn.{always_returns_same}
 use Rattle.ix_fact_table.specs.FactOrder.{comes_before}
-use Rattle.ix_fact_table.proofs.Searches.{ranges_are}
+use Rattle.ix_fact_table.proofs.KeySearches.{ranges_are}
 use Rattle.ix_fact_table.proofs.look_ups.ranges_among.Goals as goal
 
 pub returns : goal.returns

@@ -1,7 +1,7 @@
 use Rattle.std.proofs.Common.{rules, arith}
 use Rattle.std.proofs.lemmas.Fn.{always_returns_same}
 use Rattle.ix_fact_table.specs.FactOrder.{fact_cmp}
-use Rattle.ix_fact_table.proofs.Searches.{found_past, missed_past}
+use Rattle.ix_fact_table.proofs.KeySearches.{found_past, missed_past}
 use Rattle.ix_fact_table.proofs.walks.run_before.Goals as goal
 
 pub returns-in-Ok : goal.returns-in-Ok

@@ -1,6 +1,6 @@
 use Rattle.std.proofs.Common.{◌≡◌, ℕ, List, map, sym, subst, ◌∙◌}
 use Rattle.std.proofs.lemmas.Result.{IfOk-weaker}
-use Rattle.ix_table.specs.Numbered.{shown}
+use Rattle.ix_symbols.specs.Numbered.{shown}
 use Rattle.ix_guard.specs.declared.insertion.Insertion.{Insertion}
 use Rattle.ix_guard.specs.Guards.{source_insertions, texts, with_texts}
 use Rattle.ix_guard.specs.Kept.{IsSourceWith}

@@ -1,6 +1,6 @@
 use Rattle.std.proofs.Common.{◌∙◌, [], ap}
 use Rattle.ix_plain.specs.Members.{class_of, classes_from}
-use Rattle.ix_world.specs.World.{shown as shown_world}
+use Rattle.ix_class_members.specs.World.{shown as shown_world}
 use Rattle.ix_lower.proofs.OneByOne.{class_added}
 use Rattle.ix_lower.proofs.member.classes.Goals as goal
 

@@ -1,6 +1,6 @@
 use Rattle.std.proofs.Common.{◌≡◌, drop, []}
 use Rattle.ix_plain.specs.Members as spec
-use Rattle.ix_world.specs.World.{shown as shown_world}
+use Rattle.ix_class_members.specs.World.{shown as shown_world}
 use Rattle.ix_lower.proofs.member.classes.Given as goal
 
 abbrev pub invariant-loop-decl : goal.invariant-loop-decl

@@ -1,6 +1,6 @@
 use Rattle.std.proofs.Common.{[]}
 use Rattle.ix_plain.specs.Members.{param_types_from}
-use Rattle.ix_table.specs.Numbered.{shown}
+use Rattle.ix_symbols.specs.Numbered.{shown}
 use Rattle.ix_lower.proofs.OneByOne.{type_added}
 use Rattle.ix_lower.proofs.member.param_types.Goals as goal
 

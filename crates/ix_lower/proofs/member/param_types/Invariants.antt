@@ -1,6 +1,6 @@
 use Rattle.std.proofs.Common.{◌≡◌, drop, []}
 use Rattle.ix_plain.specs.Members as spec
-use Rattle.ix_table.specs.Numbered.{shown}
+use Rattle.ix_symbols.specs.Numbered.{shown}
 use Rattle.ix_lower.proofs.member.param_types.Given as goal
 
 abbrev pub invariant-loop-decl : goal.invariant-loop-decl

@@ -1,6 +1,6 @@
 use Rattle.std.proofs.Common.{[]}
 use Rattle.ix_plain.specs.Members.{params_from}
-use Rattle.ix_table.specs.Numbered.{shown}
+use Rattle.ix_symbols.specs.Numbered.{shown}
 use Rattle.ix_lower.proofs.OneByOne.{param_added}
 use Rattle.ix_lower.proofs.member.params.Goals as goal
 

@@ -1,6 +1,6 @@
 use Rattle.std.proofs.Common.{◌≡◌, drop}
 use Rattle.ix_plain.specs.Program as spec
-use Rattle.ix_world.specs.World.{shown as shown_world}
+use Rattle.ix_class_members.specs.World.{shown as shown_world}
 use Rattle.ix_meaning.specs.Inheritance.{if_instance}
 use Rattle.ix_meaning.specs.Members.{nearest}
 use Rattle.ix_lower.proofs.method.nearest_instance.Given as goal

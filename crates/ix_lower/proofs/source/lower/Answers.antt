@@ -1,10 +1,10 @@
 use Rattle.std.proofs.Common.{sym, ap, refl, ◌≡◌, ◌∙◌, ℕ, List, Result, Ok, Err, IfOk}
 use Rattle.ix_core.specs.declared.program.Program.{Program}
-use Rattle.ix_table.specs.Numbered.{shown}
+use Rattle.ix_symbols.specs.Numbered.{shown}
 use Rattle.ix_meaning.specs.ClassDecl.{ClassDecl}
 use Rattle.ix_meaning.specs.Resolved.{Names}
 use Rattle.ix_meaning.specs.Members.{World, world}
-use Rattle.ix_world.specs.World.{shown as shown_world}
+use Rattle.ix_class_members.specs.World.{shown as shown_world}
 use Rattle.ix_plain.specs.declared.body.Head.{Head}
 use Rattle.ix_plain.specs.Members.{heads as heads_of, constructors as constructors_of}
 use Rattle.ix_plain.specs.Program as spec

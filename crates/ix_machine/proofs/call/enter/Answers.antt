@@ -1,10 +1,10 @@
-use Rattle.ix_frames.specs.declared.room.Room.{Room}
+use Rattle.ix_machine_state.specs.declared.room.Room.{Room}
 use Rattle.std.proofs.Common.{arith, ap, ◌∙◌, length}
 use Rattle.ix_core.specs.Code.{items_code}
-use Rattle.ix_heap.specs.View.{heap_of}
-use Rattle.ix_frames.specs.Frames.{slots_of}
-use Rattle.ix_frames.specs.Room.{code_above, code_values}
-use Rattle.ix_operations.specs.Kinds.{kind_of}
+use Rattle.ix_machine_state.specs.View.{heap_of}
+use Rattle.ix_machine_state.specs.Frames.{slots_of}
+use Rattle.ix_machine_state.specs.Room.{code_above, code_values}
+use Rattle.ix_machine.specs.Kinds.{kind_of}
 use Rattle.ix_machine.proofs.Methods.{method_fits, receiver_is, entered_frame}
 use Rattle.ix_machine.proofs.call.enter.Goals as goal
 

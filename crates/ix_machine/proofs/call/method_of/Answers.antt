@@ -1,7 +1,7 @@
 use Rattle.std.proofs.Common.{arith, length, ap, sym, ◌∙◌}
 use Rattle.ix_core.specs.Machine.{lacks_cells, with_limits}
 use Rattle.ix_core.specs.Tables.{tables_of}
-use Rattle.ix_operations.specs.Kinds.{kind_of}
+use Rattle.ix_machine.specs.Kinds.{kind_of}
 use Rattle.ix_machine.proofs.CallStops.{heap_full, frame_full}
 use Rattle.ix_machine.proofs.call.method_of.Goals as goal
 

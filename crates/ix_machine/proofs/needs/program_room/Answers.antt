@@ -1,5 +1,5 @@
 use Rattle.std.proofs.Common.{arith, ap}
-use Rattle.ix_frames.specs.declared.room.Room.{Room}
+use Rattle.ix_machine_state.specs.declared.room.Room.{Room}
 use Rattle.ix_machine.proofs.Methods.{method_step, some_places}
 use Rattle.ix_machine.proofs.needs.program_room.Goals as goal
 

@@ -1,7 +1,7 @@
 use Rattle.std.proofs.Common.{length, arith, ap, ◌∙◌, sym}
 use borrow.Author.Tests.{ltb-true, ltb-false}
 use Rattle.ix_core.specs.Heap.{cells_used}
-use Rattle.ix_heap.specs.View.{heap_of}
+use Rattle.ix_machine_state.specs.View.{heap_of}
 use Rattle.ix_machine.proofs.Begun.{one_more}
 use Rattle.ix_machine.proofs.start.input_value.Goals as goal
 

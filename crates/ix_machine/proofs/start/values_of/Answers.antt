@@ -3,10 +3,10 @@ use Rattle.std.proofs.lemmas.List.{map-append, length-map}
 use Rattle.std.proofs.lemmas.Option.{slice_get_read}
 use Rattle.ix_core.specs.Heap.{cells_used}
 use Rattle.ix_core.specs.Safe.{input_heap}
-use Rattle.ix_heap.specs.Rows.{held_of}
-use Rattle.ix_heap.specs.View.{heap_of}
-use Rattle.ix_inputs.specs.Shown.{input_of}
-use Rattle.ix_inputs.proofs.Parameters.{shown_at}
+use Rattle.ix_machine_state.specs.Rows.{held_of}
+use Rattle.ix_machine_state.specs.View.{heap_of}
+use Rattle.ix_machine_inputs.specs.Shown.{input_of}
+use Rattle.ix_machine_inputs.proofs.Parameters.{shown_at}
 use Rattle.ix_machine.proofs.Begun.{too_large, made_step, values_step, none_left, no_value_left}
 use Rattle.ix_machine.proofs.start.values_of.Goals as goal
 

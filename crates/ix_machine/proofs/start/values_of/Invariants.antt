@@ -1,9 +1,9 @@
 use Rattle.std.proofs.Common.{◌≡◌, ◌≤◌, ◌++◌, map, drop, length}
 use Rattle.ix_core.specs.Heap.{cells_used}
 use Rattle.ix_core.specs.Safe.{input_heap, input_values}
-use Rattle.ix_heap.specs.Rows.{held_of}
-use Rattle.ix_heap.specs.View.{heap_of}
-use Rattle.ix_inputs.specs.Shown.{input_of}
+use Rattle.ix_machine_state.specs.Rows.{held_of}
+use Rattle.ix_machine_state.specs.View.{heap_of}
+use Rattle.ix_machine_inputs.specs.Shown.{input_of}
 use Rattle.ix_machine.proofs.start.values_of.Given as goal
 
 abbrev pub invariant-loop-number : goal.invariant-loop-number

@@ -1,9 +1,9 @@
 use Rattle.std.proofs.Common.{rules, refl, arith, length, ◌∙◌}
 use Rattle.ix_core.specs.Code.{items_code}
 use Rattle.ix_core.specs.Tables.{tables_of}
-use Rattle.ix_heap.specs.View.{heap_of}
-use Rattle.ix_frames.specs.Frames.{slots_of}
-use Rattle.ix_frames.specs.Places.{outer}
+use Rattle.ix_machine_state.specs.View.{heap_of}
+use Rattle.ix_machine_state.specs.Frames.{slots_of}
+use Rattle.ix_machine_state.specs.Places.{outer}
 use Rattle.ix_machine.proofs.Leading.{op_leads, free_behind}
 use Rattle.ix_machine.proofs.straight.do_row.Goals as goal
 

@@ -3,10 +3,10 @@ use Rattle.ix_core.specs.Code.{items_code}
 use Rattle.ix_core.specs.Machine.{Waiting, with_limits, frame}
 use Rattle.ix_core.specs.Tables.{tables_of}
 use Rattle.ix_core.specs.Tasks.{Tasks, code_then}
-use Rattle.ix_heap.specs.View.{heap_of}
-use Rattle.ix_frames.specs.Fits.{IsFreeFor}
-use Rattle.ix_frames.specs.Frames.{slots_of}
-use Rattle.ix_frames.specs.Places.{outer}
+use Rattle.ix_machine_state.specs.View.{heap_of}
+use Rattle.ix_machine_state.specs.Fits.{IsFreeFor}
+use Rattle.ix_machine_state.specs.Frames.{slots_of}
+use Rattle.ix_machine_state.specs.Places.{outer}
 use Rattle.ix_machine.specs.Quiet.{LeadsTo}
 use Rattle.ix_machine.specs.Turns.{state_with}
 use Rattle.ix_machine.proofs.straight.do_row.Given as goal

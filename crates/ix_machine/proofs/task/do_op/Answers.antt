@@ -1,12 +1,12 @@
-use Rattle.ix_frames.specs.Frames.{slots_of}
-use Rattle.ix_heap.specs.View.{heap_of}
+use Rattle.ix_machine_state.specs.Frames.{slots_of}
+use Rattle.ix_machine_state.specs.View.{heap_of}
 use Rattle.ix_core.specs.Tasks.{code_then}
 use Rattle.ix_core.specs.Machine.{Go, Wrap, effect_then}
 use Rattle.ix_core.specs.Code.{items_code}
-use Rattle.ix_frames.specs.Places.{outer, tasks_open}
-use Rattle.ix_frames.specs.Fits.{IsFree}
-use Rattle.ix_frames.specs.declared.places.Place.TheVariants as place
-use Rattle.ix_frames.specs.declared.stack.Stack.{Stack}
+use Rattle.ix_machine_state.specs.Places.{outer, tasks_open}
+use Rattle.ix_machine_state.specs.Fits.{IsFree}
+use Rattle.ix_machine_state.specs.declared.places.Place.TheVariants as place
+use Rattle.ix_machine_state.specs.declared.stack.Stack.{Stack}
 use Rattle.std.proofs.Common.{◌<◌, length, ap, sym, subst, ◌∙◌}
 use Rattle.ix_machine.proofs.task.do_op.Goals as goal
 

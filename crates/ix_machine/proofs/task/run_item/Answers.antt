@@ -2,9 +2,9 @@ use Rattle.std.proofs.Common.{sym, ap, length, ◌∙◌}
 use Rattle.ix_core.specs.Code.{items_code}
 use Rattle.ix_core.specs.Machine.{Go, with_limits}
 use Rattle.ix_core.specs.Tables.{tables_of}
-use Rattle.ix_heap.specs.View.{heap_of}
-use Rattle.ix_frames.specs.Frames.{slots_of}
-use Rattle.ix_frames.specs.Places.{outer, tasks_open}
+use Rattle.ix_machine_state.specs.View.{heap_of}
+use Rattle.ix_machine_state.specs.Frames.{slots_of}
+use Rattle.ix_machine_state.specs.Places.{outer, tasks_open}
 use Rattle.ix_machine.proofs.Items.{free_for, free_for_at, if_code, loop_code, loop_free, ran_if, ran_loop}
 use Rattle.ix_machine.proofs.task.run_item.Goals as goal
 

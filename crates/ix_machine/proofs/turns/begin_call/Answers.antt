@@ -1,5 +1,5 @@
 use Rattle.std.proofs.Common.{ap, ◌∙◌}
-use Rattle.ix_frames.specs.declared.room.Room.{Room}
+use Rattle.ix_machine_state.specs.declared.room.Room.{Room}
 use Rattle.ix_machine.proofs.turns.begin_call.Goals as goal
 
 pub returns-in-Err-clause-fits : goal.returns-in-Err-clause-fits

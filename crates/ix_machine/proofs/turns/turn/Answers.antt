@@ -1,5 +1,5 @@
 use Rattle.std.proofs.Common.{ap, ◌∙◌}
-use Rattle.ix_frames.specs.declared.room.Room.{Room}
+use Rattle.ix_machine_state.specs.declared.room.Room.{Room}
 use Rattle.ix_machine.proofs.turns.turn.Goals as goal
 
 pub returns-in-Stopped-clause-fits : goal.returns-in-Stopped-clause-fits

@@ -1,6 +1,6 @@
 use Rattle.std.proofs.Common.{◌≡◌, ◌++◌, ◌+◌, ◌≤◌, drop}
 use Rattle.ix_meaning.specs.Source as spec
-use Rattle.ix_member_notes.specs.World.{shown}
+use Rattle.ix_class_members.specs.World.{shown}
 use Rattle.ix_names.proofs.classes.classes.Given as goal
 
 abbrev pub invariant-loop-i : goal.invariant-loop-i

@@ -2,8 +2,8 @@ use Rattle.std.proofs.Common.{◌≡◌, ◌++◌, ◌+◌, ◌≤◌, drop, opt
 use Rattle.std.specs.HashMap.{get_by_text}
 use Rattle.ix_meaning.specs.Declarators as declared
 use Rattle.ix_meaning.specs.Source as spec
-use Rattle.ix_written.specs.Begun.{AllBegin, first_shown}
-use Rattle.ix_member_notes.specs.Places.{at}
+use Rattle.ix_class_members.specs.Begun.{AllBegin, first_shown}
+use Rattle.ix_names.specs.Places.{at}
 use Rattle.ix_names.proofs.classes.members.Given as goal
 
 abbrev pub invariant-loop-i : goal.invariant-loop-i

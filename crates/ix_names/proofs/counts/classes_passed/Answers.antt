@@ -1,7 +1,7 @@
 use Rattle.std.proofs.Common.{rules, ◌≡◌, None, Some, option_map, slice_get, sym, ap, ◌∙◌}
 use Rattle.ix_meaning.specs.declared.note.Which.TheVariants as which
 use Rattle.ix_meaning.specs.Limits as spec
-use Rattle.ix_names.proofs.Places.{past_class_at}
+use Rattle.ix_names.proofs.PlacesPassed.{past_class_at}
 use Rattle.ix_names.proofs.counts.classes_passed.Goals as goal
 
 pub returns-in-None : goal.returns-in-None

@@ -3,7 +3,7 @@ use Rattle.std.proofs.lemmas.List.{at_drop_more, at_drop_all}
 use Rattle.ix_tree.specs.declared.decl.ClassDecl.{ClassDecl}
 use Rattle.ix_meaning.specs.declared.note.Which.TheVariants as which
 use Rattle.ix_meaning.specs.Limits as spec
-use Rattle.ix_names.proofs.Places.{past_method_at, get_front, get_behind}
+use Rattle.ix_names.proofs.PlacesPassed.{past_method_at, get_front, get_behind}
 use Rattle.ix_names.proofs.counts.methods_passed.Goals as goal
 
 -- the methods of the class at hand, and those of the classes behind it

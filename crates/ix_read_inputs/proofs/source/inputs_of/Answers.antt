@@ -2,10 +2,10 @@ use Rattle.std.proofs.Common.{◌≡◌, ◌∙◌, ◌+◌, ℕ, List, Some, le
 use Rattle.ix_outside.specs.Outside.{bytes_under, first_given, Rose}
 use Rattle.ix_outside.specs.Reading.{IsFront, IsAllOrPast, most_bytes, most_certificate, most_turns}
 use Rattle.ix_words.specs.Shown.{shown}
-use Rattle.ix_command_inputs.specs.Found.{Found}
-use Rattle.ix_command_inputs.specs.Findings.{seen}
-use Rattle.ix_command_inputs.specs.Sources.{file_in, cert_in, source_bytes, NeedsCert}
-use Rattle.ix_command_inputs.specs.Opened.{bytes_of, WasUnread}
+use Rattle.ix_front.specs.Found.{Found}
+use Rattle.ix_front.specs.Findings.{seen}
+use Rattle.ix_front.specs.Sources.{file_in, cert_in, source_bytes, NeedsCert}
+use Rattle.ix_front.specs.Opened.{bytes_of, WasUnread}
 use Rattle.ix_read_inputs.proofs.InputsRead.{ReadTwo, read_two, needs_cert, opened_some, of_cert, of_source, names_two, reads_two, cert_length}
 use Rattle.ix_read_inputs.proofs.source.inputs_of.Goals as goal
 

@@ -1,6 +1,6 @@
 use Rattle.std.proofs.Common.{rules, sym, ◌∙◌, ap}
-use Rattle.ix_answer.specs.Answer.{out_answer}
-use Rattle.ix_answer.specs.declared.status.Status.TheVariants.{Rejected}
+use Rattle.ix_replies.specs.Answer.{out_answer}
+use Rattle.ix_replies.specs.declared.status.Status.TheVariants.{Rejected}
 use Rattle.ix_replies.proofs.Verdicts.{verdict_rejected}
 use Rattle.ix_replies.proofs.reply.judged_reply.Goals as goal
 

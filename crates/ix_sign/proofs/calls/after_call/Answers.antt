@@ -5,9 +5,9 @@ use Rattle.ix_facts.specs.Stores.{IsAdded, IsForgotten}
 use Rattle.ix_facts.specs.Systems.{HaveClasses}
 use Rattle.ix_store.specs.ChangedPaths.{of_called}
 use Rattle.ix_store.specs.StoredFacts.{stored}
-use Rattle.ix_claim_facts.specs.Spared.{this_if}
+use Rattle.ix_signatures.specs.Spared.{this_if}
 use Rattle.ix_sign.proofs.Rules.{call_least}
-use Rattle.ix_claim_facts.proofs.SignClasses.{result_have}
+use Rattle.ix_signatures.proofs.SignClasses.{result_have}
 use Rattle.ix_sign.proofs.calls.after_call.Goals as goal
 
 pub add-requires : goal.add-requires

@@ -5,10 +5,10 @@ use Rattle.ix_facts.specs.Stores.{IsAdded, IsForgotten}
 use Rattle.ix_facts.specs.Systems.{HaveClasses}
 use Rattle.ix_store.specs.ChangedPaths.{of_parent}
 use Rattle.ix_store.specs.StoredFacts.{stored}
-use Rattle.ix_claim_facts.specs.Signs.{own_fields, inherited_fields}
-use Rattle.ix_claim_facts.specs.Spared.{this_if}
+use Rattle.ix_signatures.specs.Signs.{own_fields, inherited_fields}
+use Rattle.ix_signatures.specs.Spared.{this_if}
 use Rattle.ix_sign.proofs.Rules.{super_least}
-use Rattle.ix_claim_facts.proofs.SignClasses.{super_have}
+use Rattle.ix_signatures.proofs.SignClasses.{super_have}
 use Rattle.ix_sign.proofs.calls.after_super.Goals as goal
 
 pub add-requires : goal.add-requires

@@ -1,6 +1,6 @@
 use Rattle.std.proofs.Common.{sym, subst, ◌∙◌}
 use Rattle.ix_facts.specs.Systems.{HaveClasses}
-use Rattle.ix_claim_facts.proofs.SignClasses.{entry_have}
+use Rattle.ix_signatures.proofs.SignClasses.{entry_have}
 use Rattle.ix_sign.proofs.entry.enter.Goals as goal
 
 pub of_facts-requires : goal.of_facts-requires

@@ -4,10 +4,10 @@ use Rattle.ix_facts.specs.Exact.{if_so}
 use Rattle.ix_facts.specs.Stores.{IsAdded}
 use Rattle.ix_facts.specs.Systems.{HaveClasses}
 use Rattle.ix_store.specs.StoredFacts.{stored}
-use Rattle.ix_claim_facts.specs.Names.{is_built}
-use Rattle.ix_claim_facts.specs.Signs.{read_facts}
+use Rattle.ix_signatures.specs.Names.{is_built}
+use Rattle.ix_signatures.specs.Signs.{read_facts}
 use Rattle.ix_sign.proofs.Rules.{read_least}
-use Rattle.ix_claim_facts.proofs.SignClasses.{if_have, read_have}
+use Rattle.ix_signatures.proofs.SignClasses.{if_have, read_have}
 use Rattle.ix_sign.proofs.fields.after_read.Goals as goal
 
 pub add-requires : goal.add-requires

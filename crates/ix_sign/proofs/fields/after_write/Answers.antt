@@ -7,11 +7,11 @@ use Rattle.ix_facts.specs.Stores.{IsAdded, IsForgotten}
 use Rattle.ix_facts.specs.Systems.{HaveClasses}
 use Rattle.ix_store.specs.ChangedPaths.{is_spared}
 use Rattle.ix_store.specs.StoredFacts.{stored}
-use Rattle.ix_claim_facts.specs.Names.{is_built}
-use Rattle.ix_claim_facts.specs.Signs.{write_facts}
-use Rattle.ix_claim_facts.specs.Spared.{this_if}
+use Rattle.ix_signatures.specs.Names.{is_built}
+use Rattle.ix_signatures.specs.Signs.{write_facts}
+use Rattle.ix_signatures.specs.Spared.{this_if}
 use Rattle.ix_sign.proofs.Rules.{write_least}
-use Rattle.ix_claim_facts.proofs.SignClasses.{if_have, write_have}
+use Rattle.ix_signatures.proofs.SignClasses.{if_have, write_have}
 use Rattle.ix_sign.proofs.fields.after_write.Goals as goal
 
 pub add-requires : goal.add-requires

@@ -4,7 +4,7 @@ use Rattle.std.proofs.lemmas.Result.{IfOk-weaker}
 use Rattle.ix_facts.specs.Stores.{IsAdded}
 use Rattle.ix_facts.specs.Systems.{HaveClasses}
 use Rattle.ix_store.specs.StoredFacts.{stored}
-use Rattle.ix_claim_facts.specs.Signs.{IsLeastOf}
+use Rattle.ix_signatures.specs.Signs.{IsLeastOf}
 use Rattle.ix_sign.specs.MethodRules.{KindGives}
 use Rattle.ix_sign.proofs.AfterRules.{copied_have, copy_least, plain_gives, plain_least}
 use Rattle.ix_sign.proofs.operations.after.Goals as goal

@@ -4,9 +4,9 @@ use Rattle.std.proofs.Common.{sym, subst, ◌∙◌}
 use Rattle.ix_facts.specs.Stores.{IsAdded, with_facts}
 use Rattle.ix_facts.specs.Systems.{HaveClasses}
 use Rattle.ix_store.specs.StoredFacts.{stored}
-use Rattle.ix_claim_facts.specs.Signs.{told_facts}
-use Rattle.ix_claim_facts.proofs.LeastSteps.{least_given}
-use Rattle.ix_claim_facts.proofs.SignClasses.{told_have}
+use Rattle.ix_signatures.specs.Signs.{told_facts}
+use Rattle.ix_signatures.proofs.LeastSteps.{least_given}
+use Rattle.ix_signatures.proofs.SignClasses.{told_have}
 use Rattle.ix_sign.proofs.told.tell.Goals as goal
 
 pub add-requires : goal.add-requires

@@ -1,5 +1,5 @@
 use Rattle.std.proofs.Common.{◌≡◌, drop}
-use Rattle.ix_claim_facts.specs.Names.{param_in}
+use Rattle.ix_signatures.specs.Names.{param_in}
 use Rattle.ix_sign.proofs.variables.param_at.Given as goal
 
 abbrev pub invariant-loop-number : goal.invariant-loop-number

@@ -2,8 +2,8 @@ use Rattle.std.proofs.Common.{◌≡◌, ◌++◌, sym, subst, ap, ◌∙◌}
 use Rattle.std.proofs.lemmas.List.{append_assoc}
 use Rattle.ix_text.proofs.Chained.{ok_then, where_ok}
 use Rattle.ix_facts.specs.Systems.{HaveClasses}
-use Rattle.ix_closure.specs.FactTables.{facts_of}
-use Rattle.ix_closure.specs.Saturated.{IsSaturated}
+use Rattle.ix_fact_table.specs.FactTables.{facts_of}
+use Rattle.ix_fact_table.specs.Saturated.{IsSaturated}
 use Rattle.ix_facts.proofs.ClassesStay.{app_have}
 use Rattle.ix_store.proofs.SmallNumbers.{all_classes}
 use Rattle.ix_store.proofs.closed.added.Goals as goal

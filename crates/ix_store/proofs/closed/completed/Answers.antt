@@ -4,9 +4,9 @@ use Rattle.ix_facts.specs.declared.kind.Kind.TheVariants as kind
 use Rattle.ix_facts.specs.Closure.{IsClosedOf}
 use Rattle.ix_facts.specs.Kinds.{of_kind}
 use Rattle.ix_facts.specs.Systems.{HaveClasses, IsTable}
-use Rattle.ix_closure.specs.Beside.{AreBeside}
-use Rattle.ix_closure.specs.FactTables.{facts_of, table_kind}
-use Rattle.ix_closure.specs.Saturated.{IsSaturated}
+use Rattle.ix_fact_table.specs.Beside.{AreBeside}
+use Rattle.ix_fact_table.specs.FactTables.{facts_of, table_kind}
+use Rattle.ix_fact_table.specs.Saturated.{IsSaturated}
 use Rattle.ix_store.specs.StoredFacts.{facts_in}
 use Rattle.ix_store.proofs.KnownStores.{is_closed_known}
 use Rattle.ix_store.proofs.StoresOf.{table_closed}

@@ -1,5 +1,5 @@
 use Rattle.std.proofs.Common.{ap, ◌∙◌}
-use Rattle.ix_closure.specs.FactTables.{facts_of}
+use Rattle.ix_fact_table.specs.FactTables.{facts_of}
 use Rattle.ix_store.specs.EmptyRanges.{some_empty}
 use Rattle.ix_store.proofs.StoresOf.{ranges_alone}
 use Rattle.ix_store.proofs.closed.has_empty.Goals as goal

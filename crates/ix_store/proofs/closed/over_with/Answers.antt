@@ -1,6 +1,6 @@
 use Rattle.std.proofs.Common.{◌∙◌, sym, subst}
 use Rattle.ix_facts.specs.Named.{IsAmongPaths}
-use Rattle.ix_closure.specs.FactTables.{facts_of, table_kind}
+use Rattle.ix_fact_table.specs.FactTables.{facts_of, table_kind}
 use Rattle.ix_store.proofs.OverInts.{grown_among, grown_plain}
 use Rattle.ix_store.proofs.closed.over_with.Goals as goal
 

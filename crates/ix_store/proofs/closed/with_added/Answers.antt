@@ -2,7 +2,7 @@ use Rattle.std.proofs.Common.{◌≡◌, ◌++◌, sym, subst}
 use Rattle.ix_facts.specs.Closure.{IsClosedOf}
 use Rattle.ix_facts.specs.Kinds.{of_kind}
 use Rattle.ix_facts.specs.Systems.{IsTable}
-use Rattle.ix_closure.specs.FactTables.{facts_of, table_kind}
+use Rattle.ix_fact_table.specs.FactTables.{facts_of, table_kind}
 use Rattle.ix_store.specs.StoredFacts.{facts_in}
 use Rattle.ix_store.proofs.GrownTables.{at_none, at_some}
 use Rattle.ix_store.proofs.StoresOf.{added_closed}

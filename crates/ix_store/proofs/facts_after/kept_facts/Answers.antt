@@ -4,7 +4,7 @@ use Rattle.ix_core.specs.declared.fact.Path.TheVariants.{Slot}
 use Rattle.ix_core.specs.declared.fact.Fact.TheVariants.{Rng}
 use Rattle.ix_text.proofs.Walked.{next_or, none_left}
 use Rattle.ix_facts.specs.Closure.{kept}
-use Rattle.ix_exact.specs.KeptLaws.{kept_joined}
+use Rattle.ix_intervals.specs.KeptLaws.{kept_joined}
 use Rattle.ix_store.proofs.facts_after.kept_facts.Goals as goal
 
 pub loop-fact-preserved : goal.loop-fact-preserved

@@ -1,7 +1,7 @@
 use Rattle.std.proofs.Common.{◌≡◌, subst, sym}
 use Rattle.ix_facts.specs.Closure.{SaysAll}
 use Rattle.ix_facts.specs.Stores.{Reached, IsStoreOf}
-use Rattle.ix_closure.specs.FactTables.{facts_of}
+use Rattle.ix_fact_table.specs.FactTables.{facts_of}
 use Rattle.ix_store.specs.StoredFacts.{facts_in, stored}
 use Rattle.ix_store.proofs.WholeStores.{proper_classes, store_whole, whole_says}
 use Rattle.ix_store.proofs.given.is_all.Goals as goal

@@ -2,7 +2,7 @@ use Rattle.std.proofs.Common.{subst}
 use Rattle.std.specs.Prelude.{IfOk}
 use Rattle.ix_facts.specs.Systems.{IsTable}
 use Rattle.ix_facts.proofs.SystemLaws.{of_any}
-use Rattle.ix_closure.specs.FactTables.{facts_of}
+use Rattle.ix_fact_table.specs.FactTables.{facts_of}
 use Rattle.ix_store.proofs.given.table_of.Goals as goal
 
 pub returns : goal.returns

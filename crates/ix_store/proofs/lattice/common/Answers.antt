@@ -2,7 +2,7 @@ use Rattle.std.proofs.Common.{sym, subst}
 use Rattle.std.proofs.lemmas.Result.{IfOk-weaker}
 use Rattle.ix_facts.specs.Closure.{IsCommon}
 use Rattle.ix_store.specs.StoredFacts.{facts_in}
-use Rattle.ix_closure.specs.TableLaws.{all_may}
+use Rattle.ix_fact_table.specs.TableLaws.{all_may}
 use Rattle.ix_store.proofs.WeakerCommon.{first_common, second_common}
 use Rattle.ix_store.proofs.lattice.common.Goals as goal
 

@@ -5,7 +5,7 @@ use Rattle.ix_facts.specs.Exact.{named_ints, named_arrays}
 use Rattle.ix_facts.specs.Named.{IsAmongPaths}
 use Rattle.ix_fact_list.specs.ByPath.{put_all}
 use Rattle.ix_fact_list.specs.PutLaws.{IsRising}
-use Rattle.ix_closure.specs.FactTables.{facts_of}
+use Rattle.ix_fact_table.specs.FactTables.{facts_of}
 use Rattle.ix_store.proofs.OverInts.{differences_name_none}
 use Rattle.ix_store.proofs.over.ints_and_arrays_of.Goals as goal
 

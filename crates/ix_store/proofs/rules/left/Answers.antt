@@ -1,7 +1,7 @@
 use Rattle.std.proofs.Common.{◌≡◌, ap, sym, subst, ◌∙◌}
 use Rattle.std.proofs.lemmas.Result.{IfOk-weaker}
 use Rattle.ix_facts.specs.Forget.{without}
-use Rattle.ix_changes.specs.ChangedPaths.{is_changed}
+use Rattle.ix_fact_paths.specs.ChangedPaths.{is_changed}
 use Rattle.ix_store.specs.StoredFacts.{facts_in}
 use Rattle.ix_store.proofs.GrownTables.{at_none, at_some}
 use Rattle.ix_store.proofs.rules.left.Goals as goal

@@ -1,6 +1,6 @@
 use Rattle.std.proofs.Common.{subst}
 use Rattle.ix_facts.specs.Stores.{Reached, IsStoreOf}
-use Rattle.ix_closure.specs.FactTables.{facts_of}
+use Rattle.ix_fact_table.specs.FactTables.{facts_of}
 use Rattle.ix_store.specs.StoredFacts.{facts_in, stored_in}
 use Rattle.ix_store.proofs.MadeStores.{made_each}
 use Rattle.ix_store.proofs.rules.of_table.Goals as goal

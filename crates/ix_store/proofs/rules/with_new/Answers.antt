@@ -2,7 +2,7 @@ use Rattle.std.proofs.Common.{◌++◌, sym, subst, ◌∙◌}
 use Rattle.ix_facts.specs.Closure.{IsClosedOf}
 use Rattle.ix_facts.specs.Stores.{Reached}
 use Rattle.ix_facts.proofs.ClosureLaws.{is_closed}
-use Rattle.ix_closure.specs.FactTables.{facts_of}
+use Rattle.ix_fact_table.specs.FactTables.{facts_of}
 use Rattle.ix_store.specs.StoredFacts.{facts_in}
 use Rattle.ix_store.proofs.GrownTables.{at_none, at_some}
 use Rattle.ix_store.proofs.KnownStores.{known_closed, known_with_none}

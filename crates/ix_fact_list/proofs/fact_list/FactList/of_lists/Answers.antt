@@ -1,6 +1,6 @@
 use Rattle.std.proofs.Common.{ap, ◌∙◌}
 use Rattle.ix_bounds.specs.Ends.{ends_in}
-use Rattle.ix_path_index.specs.Grouped.{on_list}
+use Rattle.ix_fact_paths.specs.Grouped.{on_list}
 use Rattle.ix_fact_list.proofs.fact_list.FactList.of_lists.Goals as goal
 
 pub invariant_of-result : goal.invariant_of-result

@@ -2,7 +2,7 @@ use Rattle.std.proofs.Common.{ap, ◌∙◌}
 use Rattle.ix_facts.specs.Bounds.{least, fact_less_by}
 use Rattle.ix_facts.specs.Facts.{in_orders}
 use Rattle.ix_bounds.proofs.PartsAlone.{fact_less_of}
-use Rattle.ix_path_index.specs.Grouped.{on_list}
+use Rattle.ix_fact_paths.specs.Grouped.{on_list}
 use Rattle.ix_fact_list.specs.GroupLaws.{links_among}
 use Rattle.ix_fact_list.proofs.fact_list.FactListGroups.fact_less.Goals as goal
 

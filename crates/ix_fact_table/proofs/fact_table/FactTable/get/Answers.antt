@@ -3,7 +3,7 @@ use Rattle.ix_core.specs.declared.fact.Path.TheVariants.{Slot}
 use Rattle.ix_core.specs.declared.fact.Fact.TheVariants.{Rng}
 use Rattle.ix_fact_table.specs.Entries.{in_first_order}
 use Rattle.ix_fact_table.specs.FactTables.{facts_of}
-use Rattle.ix_fact_table.proofs.Searches.{found_in}
+use Rattle.ix_fact_table.proofs.KeySearches.{found_in}
 use Rattle.ix_fact_table.proofs.fact_table.FactTable.get.Goals as goal
 
 pub returns-clause-found : goal.returns-clause-found

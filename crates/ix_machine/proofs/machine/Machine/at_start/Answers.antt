@@ -4,12 +4,12 @@ use Rattle.std.proofs.Common.{false, arith, ap, map, sym, ◌∙◌}
 use Rattle.ix_core.specs.Machine.{frame, slots_with}
 use Rattle.ix_core.specs.Tables.{body_of, method_at}
 use Rattle.ix_core.specs.Tasks.{Empty, code_then}
-use Rattle.ix_heap.specs.Rows.{held_of}
-use Rattle.ix_heap.specs.View.{heap_of}
-use Rattle.ix_frames.specs.Waiting.{waits_of}
+use Rattle.ix_machine_state.specs.Rows.{held_of}
+use Rattle.ix_machine_state.specs.View.{heap_of}
+use Rattle.ix_machine_state.specs.Waiting.{waits_of}
 use Rattle.ix_machine.specs.Turns.{state_with}
-use Rattle.ix_frames.specs.declared.room.Room.{Room}
-use Rattle.ix_frames.specs.Room.{code_above, code_values}
+use Rattle.ix_machine_state.specs.declared.room.Room.{Room}
+use Rattle.ix_machine_state.specs.Room.{code_above, code_values}
 use Rattle.ix_machine.proofs.Methods.{method_fits}
 use Rattle.ix_machine.proofs.machine.Machine.at_start.Goals as goal
 

@@ -1,9 +1,9 @@
 use Rattle.std.proofs.Common.{◌≡◌, arith, map, ap, ℕ, List, Bor, ◌∙◌, length}
 use Rattle.std.proofs.lemmas.List.{length-map}
 use Rattle.ix_core.specs.declared.program.Method.{Method}
-use Rattle.ix_heap.specs.View.{heap_of}
-use Rattle.ix_heap.specs.Rows.{held_of}
-use Rattle.ix_inputs.specs.Shown.{input_of}
+use Rattle.ix_machine_state.specs.View.{heap_of}
+use Rattle.ix_machine_state.specs.Rows.{held_of}
+use Rattle.ix_machine_inputs.specs.Shown.{input_of}
 use Rattle.ix_machine.proofs.Starting.{err_is, values_count, value_count, unmet_refuses, all_met, large_refuses, state_is, state_begins}
 use Rattle.ix_machine.proofs.Entered.{entered}
 use Rattle.ix_machine.specs.State.{state_of}

@@ -1,9 +1,9 @@
 use Rattle.std.proofs.Common.{true, ap, sym, ◌∙◌}
 use Rattle.ix_core.specs.Machine.{step}
 use Rattle.ix_core.specs.Tables.{tables_of}
-use Rattle.ix_heap.specs.View.{heap_of}
-use Rattle.ix_frames.specs.Frames.{frame_of}
-use Rattle.ix_frames.specs.Waiting.{waits_of}
+use Rattle.ix_machine_state.specs.View.{heap_of}
+use Rattle.ix_machine_state.specs.Frames.{frame_of}
+use Rattle.ix_machine_state.specs.Waiting.{waits_of}
 use Rattle.ix_machine.proofs.Leading.{state_ended}
 use Rattle.ix_machine.specs.State.{limits_of}
 use Rattle.ix_machine.proofs.machine.Machine.step.Goals as goal

@@ -1,4 +1,4 @@
-use Rattle.ix_frames.specs.Waiting.{waits_of}
+use Rattle.ix_machine_state.specs.Waiting.{waits_of}
 use Rattle.ix_machine.proofs.Leading.{goes_then, tells_then}
 use Rattle.ix_machine.proofs.machine.Machine.steps.Goals as goal
 

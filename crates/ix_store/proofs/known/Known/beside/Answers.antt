@@ -1,7 +1,7 @@
 use Rattle.std.proofs.Common.{sym, subst, ap, ◌∙◌}
 use Rattle.ix_facts.specs.Closure.{Closed}
 use Rattle.ix_facts.proofs.ClosedStays.{without_closed}
-use Rattle.ix_changes.specs.ChangedPaths.{is_changed}
+use Rattle.ix_fact_paths.specs.ChangedPaths.{is_changed}
 use Rattle.ix_store.specs.EmptyRanges.{some_empty}
 use Rattle.ix_store.specs.StoredFacts.{facts_in}
 use Rattle.ix_store.proofs.ClosedTests.{closed_of_test}

@@ -1,5 +1,5 @@
 use Rattle.ix_facts.proofs.ClosureLaws.{common_closed}
-use Rattle.ix_closure.specs.FactTables.{facts_of}
+use Rattle.ix_fact_table.specs.FactTables.{facts_of}
 use Rattle.ix_store.specs.StoredFacts.{facts_in}
 use Rattle.ix_store.proofs.ClosedTests.{closed_of_test}
 use Rattle.ix_store.proofs.FullCommon.{common_full}

@@ -1,5 +1,5 @@
 use Rattle.std.proofs.Common.{ap, sym, ◌∙◌}
-use Rattle.ix_closure.specs.Beside.{are_plain}
+use Rattle.ix_fact_table.specs.Beside.{are_plain}
 use Rattle.ix_store.proofs.known.Known.grown.Goals as goal
 
 pub with_plain-requires : goal.with_plain-requires

@@ -1,5 +1,5 @@
 use Rattle.std.proofs.Common.{sym, ap, ◌∙◌}
-use Rattle.ix_changes.specs.ChangedPaths.{is_changed, some_path}
+use Rattle.ix_fact_paths.specs.ChangedPaths.{is_changed, some_path}
 use Rattle.ix_store.proofs.OverInts.{untouched}
 use Rattle.ix_store.proofs.known.Known.is_touched.Goals as goal
 

@@ -1,6 +1,6 @@
 use Rattle.std.proofs.Common.{ap, sym, subst, ◌∙◌}
 use Rattle.ix_facts.specs.Stores.{IsStoreOf, Reached}
-use Rattle.ix_closure.specs.FactTables.{facts_of}
+use Rattle.ix_fact_table.specs.FactTables.{facts_of}
 use Rattle.ix_store.specs.EmptyRanges.{some_empty}
 use Rattle.ix_store.proofs.StoresOf.{closed_unreachable, closed_reached}
 use Rattle.ix_store.proofs.known.Known.of_table.Goals as goal

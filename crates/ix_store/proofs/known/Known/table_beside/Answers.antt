@@ -3,8 +3,8 @@ use Rattle.ix_facts.specs.Exact.{named_ints}
 use Rattle.ix_facts.specs.Facts.{in_orders}
 use Rattle.ix_facts.specs.Forget.{without}
 use Rattle.ix_facts.specs.Named.{IsAmongPaths}
-use Rattle.ix_changes.specs.ChangedPaths.{is_changed}
-use Rattle.ix_closure.specs.FactTables.{facts_of}
+use Rattle.ix_fact_paths.specs.ChangedPaths.{is_changed}
+use Rattle.ix_fact_table.specs.FactTables.{facts_of}
 use Rattle.ix_store.specs.StoredFacts.{facts_in}
 use Rattle.ix_store.proofs.OverInts.{left_among, without_plain}
 use Rattle.ix_store.proofs.known.Known.table_beside.Goals as goal

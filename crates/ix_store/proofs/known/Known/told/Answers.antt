@@ -1,6 +1,6 @@
 use Rattle.std.proofs.Common.{◌++◌, refl}
 use Rattle.std.proofs.lemmas.Result.{IfOk-weaker}
-use Rattle.ix_outcomes.specs.OverGroups.{outcome_of}
+use Rattle.ix_test_facts.specs.OverGroups.{outcome_of}
 use Rattle.ix_store.proofs.BehindRules.{told_is, told_have}
 use Rattle.ix_store.proofs.ClassesAfter.{right_have}
 use Rattle.ix_store.proofs.SmallNumbers.{all_classes}

@@ -6,8 +6,8 @@ use Rattle.ix_facts.specs.Facts.{in_orders}
 use Rattle.ix_fact_list.specs.Ends.{ends_in}
 use Rattle.ix_fact_list.specs.Links.{links_in}
 use Rattle.ix_fact_list.specs.ByPath.{put_all}
-use Rattle.ix_closure.specs.FactTables.{facts_of}
-use Rattle.ix_closure.specs.TableLaws.{all_may}
+use Rattle.ix_fact_table.specs.FactTables.{facts_of}
+use Rattle.ix_fact_table.specs.TableLaws.{all_may}
 use Rattle.ix_store.specs.EmptyRanges.{some_empty}
 use Rattle.ix_store.specs.Orders.{ordered_by}
 use Rattle.ix_store.proofs.ClosedTests.{closed_by_test}

@@ -1,6 +1,6 @@
 use Rattle.std.proofs.Common.{◌≡◌, sym, subst}
 use Rattle.ix_facts.specs.Stores.{Reached, IsStoreOf, IsForgotten}
-use Rattle.ix_changes.specs.ChangedPaths.{is_changed}
+use Rattle.ix_fact_paths.specs.ChangedPaths.{is_changed}
 use Rattle.ix_store.specs.StoredFacts.{facts_in, stored}
 use Rattle.ix_store.proofs.KnownStores.{known_store}
 use Rattle.ix_store.proofs.store.Store.forget_changed.Goals as goal

@@ -2,7 +2,7 @@ use Rattle.std.proofs.Common.{◌≡◌, ◌++◌, subst}
 use Rattle.std.proofs.lemmas.Result.{IfOk-weaker}
 use Rattle.ix_facts.specs.Stores.{Reached, with_outcome}
 use Rattle.ix_facts.specs.SameFacts.{AreSame}
-use Rattle.ix_outcomes.specs.OverGroups.{outcome_of}
+use Rattle.ix_test_facts.specs.OverGroups.{outcome_of}
 use Rattle.ix_store.specs.StoredFacts.{facts_in, stored}
 use Rattle.ix_store.proofs.BehindRules.{given_by}
 use Rattle.ix_store.proofs.store.Store.told.Goals as goal

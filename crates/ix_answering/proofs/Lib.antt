@@ -1,6 +1,0 @@
-pub mod Answered
-mod GuardsAnswered
-mod SomeAnswer
-mod WholeSources
-mod SomeGuarded
-mod Verifiable

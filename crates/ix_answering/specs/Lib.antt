@@ -1,5 +1,0 @@
-pub mod Judgements
-pub mod Answers
--- What is promised of a source by the answer to it.
-pub mod Promises
-pub mod Existence

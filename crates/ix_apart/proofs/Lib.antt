@@ -1,5 +1,0 @@
-mod TypedNames
-mod ApartLocals
-mod LocalsCounted
-mod FewDeclared
-pub mod LoweredPrograms

@@ -1,7 +1,0 @@
-use Rattle.std.proofs.Common.{map}
-use Rattle.ix_method_errors.specs.StoredFacts.{stored}
-use Rattle.ix_audit.proofs.Programs.{IsSoFar}
-use Rattle.ix_audit.proofs.audited.audit.Given as goal
-
-abbrev pub invariant-loop-number : goal.invariant-loop-number
-invariant-loop-number l = IsSoFar l.program l.profile (map (map stored) l.labels) l.number l.found.items

@@ -1,6 +1,0 @@
-use Rattle.std.proofs.Common.{sym, ◌∙◌}
-use Rattle.ix_bounds.specs.HasOrders.{search_in_orders}
-use Rattle.ix_claims.proofs.proved.has_search.Goals as goal
-
-pub returns : goal.returns
-returns g c = c.search.ensures.fact ∙ sym (search_in_orders c.args.p.now c.args.a.now (g.K.Know.known c.args.know.now))

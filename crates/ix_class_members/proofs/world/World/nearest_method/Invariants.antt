@@ -1,0 +1,8 @@
+use Rattle.std.proofs.Common.{◌≡◌, drop}
+use Rattle.ix_class_members.specs.World as spec
+use Rattle.ix_symbols.specs.Members as members
+use Rattle.ix_class_members.proofs.world.World.nearest_method.Given as goal
+
+abbrev pub invariant-loop-class : goal.invariant-loop-class
+invariant-loop-class l =
+    members.nearest (λ a. (spec.shown l.self).method a l.name) (drop l.class-index l.classes) ≡ members.nearest (λ a. (spec.shown l.self).method a l.name) l.classes

@@ -1,0 +1,10 @@
+pub mod Literals
+pub mod First
+pub mod World
+pub mod Overriding
+pub mod Parts
+pub mod ClassTypes
+pub mod Seen
+pub mod Begun
+-- Passed on from ix_meaning.
+pub use Rattle.ix_meaning.specs.Declarators

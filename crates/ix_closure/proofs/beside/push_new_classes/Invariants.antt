@@ -1,7 +1,0 @@
-use Rattle.std.proofs.Common.{◌≡◌, ◌++◌, drop}
-use Rattle.ix_facts.specs.Exact.{each}
-use Rattle.ix_closure.specs.Beside.{new_class_of}
-use Rattle.ix_closure.proofs.beside.push_new_classes.Given as goal
-
-abbrev pub invariant-loop-fact : goal.invariant-loop-fact
-invariant-loop-fact l = l.out.items ++ each (new_class_of l.new) (drop l.fact-index l.ranges) ≡ l.fn.out.items ++ each (new_class_of l.new) l.ranges

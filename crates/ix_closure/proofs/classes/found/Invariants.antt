@@ -1,6 +1,0 @@
-use Rattle.std.proofs.Common.{◌≡◌, drop}
-use Rattle.ix_closure.specs.Classes.{root_of}
-use Rattle.ix_closure.proofs.classes.found.Given as goal
-
-abbrev pub invariant-loop-entry : goal.invariant-loop-entry
-invariant-loop-entry l = root_of (drop l.entry-index l.roots) l.a ≡ root_of l.roots l.a

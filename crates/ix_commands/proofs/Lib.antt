@@ -1,0 +1,7 @@
+pub mod Answered
+mod GuardsAnswered
+mod SomeAnswer
+mod WholeSources
+mod SomeGuarded
+mod Verifiable
+pub mod GuardedFindings

@@ -1,0 +1,25 @@
+//! What names mean at a place, the rules on names and types, and what expressions mean, with their types (JLS 6.5, 15).
+//!
+//! What goes in: a name or an expression of the tree, the members of all classes, and the parameters and locals in scope. What comes out: what the name means there, also in an
+//! annotation; the type of the expression; and the notes of all that it says, with an error for each rule that is broken.
+//! The contract: `reading` of `ix_meaning`'s `Values`, and its `Scope` and `Rules`.
+//! It stands on `ix_class_members`, and on `indexmap` for the names of locals.
+//! It never looks at a statement.
+#![tactic(auto)]
+
+mod names;
+mod naming;
+mod rules;
+mod scope;
+mod selections;
+mod values;
+
+pub use ix_class_members::{
+    Annotations, Begun, Declaration, World, begin_with, further_annotations, of_variable,
+    own_annotations, variable,
+};
+pub use ix_symbols::{BOOLEAN, Need};
+pub use naming::InAnnotation;
+pub use rules::{note_declared, wrong, wrong_if};
+pub use scope::{Known, Local, Param, Scopes};
+pub use values::{arguments, check, fill, given_to, value};

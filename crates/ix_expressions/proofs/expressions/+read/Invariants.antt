@@ -1,4 +1,0 @@
-use Rattle.ix_expressions.proofs.expressions.+read.Given as goal
-
-abbrev pub decreases-read : goal.decreases-read
-decreases-read l = l.left

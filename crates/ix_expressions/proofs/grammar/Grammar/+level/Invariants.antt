@@ -1,4 +1,0 @@
-use Rattle.ix_expressions.proofs.grammar.Grammar.+level.Given as goal
-
-abbrev pub decreases-level : goal.decreases-level
-decreases-level g l = l.levels

@@ -1,0 +1,16 @@
+pub mod PathTies
+pub mod EntriesAre
+pub mod Found
+mod Places
+mod Added
+mod Marked
+mod Unmarked
+pub mod NearPlaces
+mod OneOrder
+mod PartsNamed
+mod Filtered
+mod OnePath
+mod RisingMarks
+mod KeptFirst
+-- Passed on from ix_facts.
+pub use Rattle.ix_facts.proofs.PathOrders

@@ -1,0 +1,15 @@
+use Rattle.std.proofs.Common.{◌≡◌, ◌++◌, ◌+◌, drop, ap, sym, ◌∙◌, rules}
+use Rattle.ix_facts.specs.Forget.{without}
+use Rattle.ix_facts.specs.After.{of_target}
+use Rattle.ix_fact_paths.proofs.Filtered.{named_next, kept_next}
+use Rattle.ix_fact_paths.proofs.filters.facts_without_target.Goals as goal
+use Rattle.ix_fact_paths.proofs.filters.facts_without_target.Goals.{then-not-names_target, else-not-names_target}
+
+pub loop-fact-preserved : goal.loop-fact-preserved
+loop-fact-preserved c =
+    let rest = without (of_target c.args.kind.now) (drop (c.loop-fact.fact-index + 1) c.args.facts.now) in
+    let facts : c.if-not-names_target.kept.items ++ rest ≡ without (of_target c.args.kind.now) c.args.facts.now = elim c.if-not-names_target.branch [
+      | then-not-names_target w ↦ ap (λ v. v.items ++ rest) w.kept-is ∙ ap (λ l. l ++ rest) w.push_reserved.ensures.items ∙ kept_next (of_target c.args.kind.now) c.args.facts.now c.loop-fact.fact-index _ c.loop-fact.kept.items _ c.loop-fact-test.true (sym c.names_target.ensures ∙ w.if-not-names_target.true) c.loop-fact.invariant.facts
+      | else-not-names_target w ↦ ap (λ v. v.items ++ rest) w.kept-is ∙ named_next (of_target c.args.kind.now) c.args.facts.now c.loop-fact.fact-index _ c.loop-fact.kept.items _ c.loop-fact-test.true (sym c.names_target.ensures ∙ w.if-not-names_target.false) c.loop-fact.invariant.facts
+    ] in
+    record { facts = facts; short = search rules; room = search rules }

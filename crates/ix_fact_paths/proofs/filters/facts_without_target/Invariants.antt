@@ -1,0 +1,12 @@
+use Rattle.std.proofs.Common.{◌≡◌, ◌++◌, ◌≤◌, drop, length}
+use Rattle.std.specs.Vec.{vec_len, vec_capacity}
+use Rattle.ix_facts.specs.Forget.{without}
+use Rattle.ix_facts.specs.After.{of_target}
+use Rattle.ix_fact_paths.proofs.filters.facts_without_target.Given as goal
+
+abbrev pub invariant-loop-fact : goal.invariant-loop-fact
+invariant-loop-fact l = record {
+  facts : l.kept.items ++ without (of_target l.kind) (drop l.fact-index l.facts) ≡ without (of_target l.kind) l.facts;
+  short : vec_len l.kept ≤ l.fact-index;
+  room : length l.facts ≤ vec_capacity l.kept;
+}

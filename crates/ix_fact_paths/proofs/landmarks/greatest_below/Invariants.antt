@@ -1,0 +1,13 @@
+use Rattle.std.proofs.Common.{◌≡◌, drop}
+use Rattle.std.specs.Prelude.{IfSome}
+use Rattle.std.specs.Int.{int_max}
+use Rattle.ix_facts.specs.Ints.{IsInt}
+use Rattle.ix_facts.specs.Bounds.{best}
+use Rattle.ix_facts.specs.Round.{mark_below}
+use Rattle.ix_fact_paths.proofs.landmarks.greatest_below.Given as goal
+
+abbrev pub invariant-loop-mark : goal.invariant-loop-mark
+invariant-loop-mark l = record {
+  mark : best int_max l.found (mark_below (drop l.mark-index l.marks) l.n) ≡ mark_below l.marks l.n;
+  int : IfSome l.found IsInt;
+}

@@ -1,0 +1,10 @@
+use Rattle.std.proofs.Common.{rules, arith, w64, to_z, of_z, ◌∙◌}
+use Rattle.std.proofs.lemmas.Int.{to_z-of_z}
+use Rattle.ix_facts.specs.Bounds as spec
+use Rattle.ix_intervals.specs.BestLaws.{next_high}
+use Rattle.ix_fact_table.proofs.searches.high_among.Goals as goal
+
+pub loop-fact-preserved : goal.loop-fact-preserved
+loop-fact-preserved c =
+    next_high (spec.range_high_by c.args.p.now) c.args.ranges.now c.loop-fact.fact-index _ (omega (arith, c.loop-fact-test.true)) (to_z w64 c.loop-fact.high-bits) (to_z w64 (of_z w64 c.high_of-high.result)) _
+    (to_z-of_z w64 c.high_of-high.result (search rules) ∙ c.high_of-high.ensures.value) c.loop-fact.invariant

@@ -1,8 +1,0 @@
-use Rattle.std.proofs.Common.{◌≡◌, ◌++◌, drop}
-use Rattle.ix_facts.specs.Closure.{kept}
-use Rattle.ix_facts.specs.Finish as rule
-use Rattle.ix_facts.specs.Exact.{each}
-use Rattle.ix_finish.proofs.along.push_steps_above.Given as goal
-
-abbrev pub invariant-loop-fact : goal.invariant-loop-fact
-invariant-loop-fact l = l.out.items ++ kept (each (rule.step_above l.t l.q l.c) (drop l.fact-index l.on_other)) ≡ l.fn.out.items ++ kept (each (rule.step_above l.t l.q l.c) l.on_other)

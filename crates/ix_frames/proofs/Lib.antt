@@ -1,5 +1,0 @@
-pub mod Reach
-pub mod Opened
-pub mod Free
-pub mod Rooms
-pub mod Outer

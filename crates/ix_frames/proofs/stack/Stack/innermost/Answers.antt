@@ -1,6 +1,0 @@
-use Rattle.ix_frames.specs.Places.{outer}
-use Rattle.ix_frames.proofs.Reach.{popped_free}
-use Rattle.ix_frames.proofs.stack.Stack.innermost.Goals as goal
-
-pub returns-in-Some-clause-free : goal.returns-in-Some-clause-free
-returns-in-Some-clause-free c = popped_free c.args.self.now (outer c.args.self.now.places.items) c.in-Some.place c.in-Some.ensures.items

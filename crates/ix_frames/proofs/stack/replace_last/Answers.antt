@@ -1,7 +1,0 @@
-use Rattle.std.proofs.Common.{arith}
-use Rattle.ix_frames.proofs.Outer.{last_set}
-use Rattle.ix_frames.proofs.Reach.{place_count}
-use Rattle.ix_frames.proofs.stack.replace_last.Goals as goal
-
-pub returns-clause-items : goal.returns-clause-items
-returns-clause-items c = last_set c.args.places.now.items _ c.args.place (omega (arith, c.requires, place_count c.args.places.now))

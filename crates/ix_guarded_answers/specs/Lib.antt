@@ -1,2 +1,0 @@
--- What may be found of a guarded text.
-pub mod Findings

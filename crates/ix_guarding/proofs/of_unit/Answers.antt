@@ -1,5 +1,0 @@
-use Rattle.ix_guarding.proofs.NamedSources.{accepted_memory}
-use Rattle.ix_guarding.proofs.of_unit.Goals as goal
-
-pub unresolved-requires : goal.unresolved-requires
-unresolved-requires c = accepted_memory c.args.unit.now c.in-Err.why c.requires.accepts c.in-Err.ensures.refused

@@ -1,4 +1,0 @@
-pub mod Rows
-pub mod Layout
-pub mod Added
-pub mod View

@@ -1,9 +1,0 @@
-use Rattle.ix_instance.proofs.laws.counter_laws.Goals as goal
-use Rattle.ix_instance.proofs.CounterFormed.{counter_formed}
-use Rattle.ix_instance.proofs.CounterLaws.{counter_safe}
-
-pub returns-clause-formed : goal.returns-clause-formed
-returns-clause-formed c = counter_formed
-
-pub returns-clause-safe : goal.returns-clause-safe
-returns-clause-safe c = counter_safe

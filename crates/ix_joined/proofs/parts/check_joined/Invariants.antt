@@ -1,4 +1,0 @@
-use Rattle.ix_joined.proofs.parts.check_joined.Given as goal
-
-abbrev pub ghosts-list_of_part : goal.ghosts-list_of_part
-ghosts-list_of_part a = record { name = a.blank.name; parts = a.blank.parts }

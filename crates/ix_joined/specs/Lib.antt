@@ -1,2 +1,0 @@
--- The errors of a program in two parts.
-pub mod Parts

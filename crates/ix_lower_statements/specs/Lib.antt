@@ -1,0 +1,3 @@
+pub mod Forms
+-- Passed on from ix_lower_expressions.
+pub use Rattle.ix_lower_expressions.specs.Shown

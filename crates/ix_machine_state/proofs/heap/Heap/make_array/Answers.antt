@@ -1,0 +1,29 @@
+use Rattle.std.proofs.Common.{◌∙◌, sym, refl, arith}
+use Rattle.std.proofs.lemmas.List.{length-replicate}
+use Rattle.ix_machine_state.proofs.Objects.{used_is, laid_after, cells_more, rows_more, row_length, count_objects, made, map-replicate}
+use Rattle.ix_machine_state.proofs.heap.Heap.make_array.Goals as goal
+
+pub push_copies-requires : goal.push_copies-requires
+push_copies-requires c = omega (arith, used_is c.args.self.now, c.args.self.now.cell_room)
+
+pub push_reserved-requires : goal.push_reserved-requires
+push_reserved-requires c = omega (arith, used_is c.args.self.now, c.args.self.now.row_room)
+
+pub invariant_of-self : goal.invariant_of-self
+invariant_of-self c =
+    let size = length-replicate c.args.len c.cell_default.result in
+    record {
+      apart = laid_after c.args.self.now c.push_reserved.new.self c.push_copies.new.cells _ _ c.push_reserved.ensures.items c.push_copies.ensures.items c.len.ensures (sym size);
+      within = omega (arith, used_is c.args.self.now, size, cells_more c.args.self.now c.push_copies.new.cells _ c.push_copies.ensures.items, rows_more c.args.self.now c.push_reserved.new.self _ c.push_reserved.ensures.items);
+      row_room = omega (arith, c.args.self.now.row_room, c.push_reserved.ensures.capacity);
+      cell_room = omega (arith, c.args.self.now.cell_room, c.push_copies.ensures.room);
+      small = c.args.self.now.small;
+    }
+
+pub returns-clause-number : goal.returns-clause-number
+returns-clause-number c = omega (arith, c.len-number.ensures, row_length c.args.self.now.rows, count_objects c.args.self.now.rows.items c.args.self.now.cells.items)
+
+pub returns-clause-made : goal.returns-clause-made
+returns-clause-made c =
+    made c.args.self.now c.push_reserved.new.self c.push_copies.new.cells _ _ c.push_reserved.ensures.items c.push_copies.ensures.items (sym (length-replicate c.args.len c.cell_default.result))
+    ∙ rw (map-replicate, c.cell_default.ensures) refl

@@ -1,0 +1,13 @@
+use Rattle.std.proofs.Common.{◌≡◌, length}
+use Rattle.ix_core.specs.Tasks.{behind_loop}
+use Rattle.ix_machine_state.specs.Places.{tasks_open}
+use Rattle.ix_machine_state.proofs.stack.Stack.leave_loop.Given as goal
+
+abbrev pub invariant-loop-place : goal.invariant-loop-place
+invariant-loop-place l = record {
+  tasks : behind_loop (tasks_open l.self.places.items) ≡ behind_loop (tasks_open l.initial.self.places.items);
+  room : l.self.room ≡ l.initial.self.room;
+}
+
+abbrev pub decreases-loop-place : goal.decreases-loop-place
+decreases-loop-place l = length l.self.places.items

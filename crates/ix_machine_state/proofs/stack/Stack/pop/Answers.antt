@@ -1,0 +1,15 @@
+use Rattle.std.proofs.Common.{arith}
+use Rattle.ix_machine_state.proofs.Reach.{popped, popped_free}
+use Rattle.ix_machine_state.proofs.stack.Stack.pop.Goals as goal
+
+pub invariant_of-self : goal.invariant_of-self
+invariant_of-self c =
+    let less = popped c.args.self.now c.pop_place.new.places c.pop_place.result c.pop_place.ensures.items in
+    record {
+      fits = less.0;
+      passes = less.1;
+      roomy = omega (arith, c.args.self.now.roomy, c.pop_place.ensures.room);
+    }
+
+pub returns-in-Some-clause-free : goal.returns-in-Some-clause-free
+returns-in-Some-clause-free c = popped_free c.args.self.now c.pop_place.new.places.items c.in-Some.place c.in-Some.ensures.items

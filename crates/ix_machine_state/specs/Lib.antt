@@ -1,0 +1,10 @@
+pub mod Room
+pub mod Places
+pub mod Fits
+pub mod Values
+pub mod Frames
+pub mod Waiting
+pub mod Rows
+pub mod Layout
+pub mod Added
+pub mod View

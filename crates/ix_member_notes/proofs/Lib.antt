@@ -1,5 +1,0 @@
-mod MethodNotes
-pub mod NewLocals
-pub mod Prefix
-pub mod Told
-mod StatementsTold

@@ -1,2 +1,0 @@
-pub mod OntoFields
-pub mod NextClass

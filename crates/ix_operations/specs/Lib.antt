@@ -1,4 +1,0 @@
-pub mod Rows
-pub mod Effects
-pub mod Calls
-pub mod Kinds

@@ -1,8 +1,0 @@
-use Rattle.std.specs.Prelude.{pos}
-use Rattle.std.proofs.Common.{sym, ◌∙◌}
-use Rattle.std.proofs.lemmas.Result.{IfOk-weaker}
-use Rattle.ix_core.specs.declared.fact.Fact.TheVariants.{Less}
-use Rattle.ix_outcomes.proofs.own.with_own_above.Goals as goal
-
-pub returns : goal.returns
-returns c = IfOk-weaker c.with_own.result _ _ (λ all is. is ∙ sym (c.before_to_greater.ensures.own (Less c.args.q.now c.args.q.now (pos 1)))) c.with_own.ensures

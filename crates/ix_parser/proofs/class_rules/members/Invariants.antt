@@ -1,0 +1,17 @@
+use Rattle.std.proofs.Common.{◌≡◌, ◌≤◌, length}
+use Rattle.ix_grammar.specs.ClassGrammar as nodes
+use Rattle.ix_grammar_rules.specs.ClassRules as spec
+use Rattle.ix_grammar_rules.specs.ListRules.{braces_of}
+use Rattle.ix_grammar_rules.specs.Rule.{run}
+use Rattle.ix_grammar_rules.specs.SourceRules.{parts}
+use Rattle.ix_parser.proofs.class_rules.members.Given as goal
+
+abbrev pub invariant-reading : goal.invariant-reading
+invariant-reading l = record {
+  leads : run (braces_of (spec.member parts l.left) nodes.with_members nodes.no_members) l.initial.cursor ≡ run (braces_of (spec.member parts l.left) nodes.with_members l.found) l.cursor;
+  no_longer : length l.cursor ≤ length l.initial.cursor;
+  fits : l.found.height ≤ l.left;
+}
+
+abbrev pub decreases-reading : goal.decreases-reading
+decreases-reading l = length l.cursor

@@ -1,5 +1,0 @@
-use Rattle.ix_path_index.proofs.Unmarked.{bit_put}
-use Rattle.ix_path_index.proofs.marks.set_bit.Goals as goal
-
-pub returns : goal.returns
-returns c = bit_put c.args.word.now c.args.number c.requires.low

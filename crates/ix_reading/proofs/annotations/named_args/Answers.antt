@@ -1,5 +1,0 @@
-use Rattle.ix_descent.proofs.AnnotHeights.{named_low}
-use Rattle.ix_reading.proofs.annotations.named_args.Goals as goal
-
-pub returns-clause-low : goal.returns-clause-low
-returns-clause-low c = named_low c.in_ok-args.args

@@ -1,8 +1,0 @@
-use Rattle.std.proofs.Common.{[], ◌≡◌, ◌++◌, drop}
-use Rattle.ix_facts.specs.Closure.{kept}
-use Rattle.ix_facts.specs.AfterOperation as after
-use Rattle.ix_facts.specs.Exact.{each}
-use Rattle.ix_rules.proofs.lengths.push_flips.Given as goal
-
-abbrev pub invariant-loop-fact : goal.invariant-loop-fact
-invariant-loop-fact l = l.out.items ++ kept (each (after.flip_by [] l.t l.y) (drop l.fact-index l.on_operand)) ≡ l.fn.out.items ++ kept (each (after.flip_by [] l.t l.y) l.on_operand)

@@ -1,5 +1,0 @@
-use Rattle.ix_sound.proofs.laws.soundness.Goals as goal
-use Rattle.ix_sound.proofs.NoErrorsAreSafe.{safe_where_apart}
-
-pub returns : goal.returns
-returns c = record { sound = λ program locals profile formed apart none. safe_where_apart program locals formed apart profile none }

@@ -1,4 +1,0 @@
-use Rattle.ix_statements.proofs.statement_rules.+statement.Given as goal
-
-abbrev pub decreases-statement : goal.decreases-statement
-decreases-statement l = l.left

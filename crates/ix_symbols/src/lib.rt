@@ -1,0 +1,31 @@
+//! What each place of a source means, and the list of its errors, both read off its notes.
+//!
+//! What goes in: the notes of a source, in the order of its text. What comes out: a table of them by places, or the sorted list of errors.
+//! The contract: `names_in` of `specs/Resolved.antt` and `derived` and `IsListed` of `specs/Listed.antt`, all of `ix_meaning`.
+//! It stands on `ix_meaning`, and on maps of std for places.
+//! It never looks at the tree.
+//!
+//! Types and classes, as names in a source give them.
+//!
+//! What goes in: classes of the tree and types of `ix_core`. What comes out: which class a name means, which classes stand above it, and which types are one.
+//! The contract: `Classes` and `Types` of `ix_meaning`.
+//! It stands on `ix_meaning`, and on maps of std for the names of classes.
+//! It never looks at a member or at a body.
+#![tactic(auto)]
+
+mod classes;
+mod errors;
+mod listing;
+mod table;
+mod types;
+
+pub use classes::{
+    ClassTable, class_table, is_among, is_cyclic, note_first, parent, parents, supers,
+};
+pub use ix_meaning::{Field, Meaning, Signature};
+pub use listing::errors_of;
+pub use table::{Table, table_of};
+pub use types::{
+    BOOLEAN, INT, Need, copied, copied_option, element, is_primitive, is_reference, need_like,
+    same_type,
+};

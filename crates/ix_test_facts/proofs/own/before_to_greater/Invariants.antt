@@ -1,0 +1,10 @@
+use Rattle.std.proofs.Common.{◌≡◌}
+use Rattle.ix_test_facts.specs.OverGroups.{is_to_greater}
+use Rattle.ix_test_facts.proofs.OwnPut.{ArePassed}
+use Rattle.ix_test_facts.proofs.own.before_to_greater.Given as goal
+
+abbrev pub invariant-loop-fact : goal.invariant-loop-fact
+invariant-loop-fact l = record {
+  counted : l.count ≡ l.fact-index;
+  passed : ArePassed (is_to_greater l.q) l.on_q l.fact-index;
+}

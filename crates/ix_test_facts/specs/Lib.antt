@@ -1,0 +1,3 @@
+pub mod OverGroups
+-- Passed on from ix_intervals.
+pub use Rattle.ix_intervals.specs.KeptLaws

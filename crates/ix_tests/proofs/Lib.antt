@@ -1,0 +1,2 @@
+pub mod KnownOne
+pub mod KnownBeside

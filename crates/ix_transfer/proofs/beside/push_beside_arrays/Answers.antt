@@ -1,0 +1,12 @@
+use Rattle.std.proofs.Common.{arith}
+use Rattle.ix_facts.specs.Finish as rule
+use Rattle.ix_facts.specs.Facts.{in_orders}
+use Rattle.ix_intervals.specs.KeptLaws.{all_paths, next_path}
+use Rattle.ix_transfer.proofs.beside.push_beside_arrays.Goals as goal
+
+pub loop-a-preserved : goal.loop-a-preserved
+loop-a-preserved g c =
+    next_path (rule.beside_array (in_orders (g.K.Know.known c.args.know.now)) c.args.new.now c.args.t.now) c.args.arrays.now c.loop-a.a-index _ (omega (arith, c.loop-a-test.true)) c.loop-a.out.items c.push_beside_array.new.out.items _ c.in_ok-push_beside_array.ensures c.loop-a.invariant
+
+pub returns : goal.returns
+returns g c = all_paths (rule.beside_array (in_orders (g.K.Know.known c.args.know.now)) c.args.new.now c.args.t.now) c.args.arrays.now c.loop-a.a-index (omega (arith, c.loop-a-test.false)) c.loop-a.out.items _ c.loop-a.invariant

@@ -1,0 +1,9 @@
+use Rattle.std.proofs.Common.{◌≡◌, ◌++◌, drop}
+use Rattle.ix_facts.specs.Closure.{kept}
+use Rattle.ix_facts.specs.Finish as rule
+use Rattle.ix_facts.specs.Facts.{in_orders}
+use Rattle.ix_facts.specs.Exact.{each_path}
+use Rattle.ix_transfer.proofs.beside.push_beside_ints.Given as goal
+
+abbrev pub invariant-loop-r : goal.invariant-loop-r
+invariant-loop-r g l = l.out.items ++ kept (each_path (rule.beside_int (in_orders (g.K.Know.known l.know)) l.new l.t) (drop l.r-index l.ints)) ≡ l.fn.out.items ++ kept (each_path (rule.beside_int (in_orders (g.K.Know.known l.know)) l.new l.t) l.ints)

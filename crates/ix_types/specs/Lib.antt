@@ -1,7 +1,0 @@
-pub mod Needs
--- Passed on from ix_meaning.
-pub use Rattle.ix_meaning.specs.Classes
-pub use Rattle.ix_meaning.specs.Members
-pub use Rattle.ix_meaning.specs.Source
-pub use Rattle.ix_meaning.specs.declared.members.Field
-pub use Rattle.ix_meaning.specs.declared.members.Signature

@@ -1,5 +1,0 @@
-pub mod FewMembers
-pub mod FirstNumbers
-pub mod NoMembers
-pub mod Worlds
-mod OneWalk

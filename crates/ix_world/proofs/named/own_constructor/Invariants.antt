@@ -1,7 +1,0 @@
-use Rattle.std.proofs.Common.{◌≡◌, None, drop}
-use Rattle.ix_types.specs.Members.{is_constructor_named}
-use Rattle.ix_world.specs.First.{first_where}
-use Rattle.ix_world.proofs.named.own_constructor.Given as goal
-
-abbrev pub invariant-loop-k : goal.invariant-loop-k
-invariant-loop-k l = first_where (is_constructor_named l.class l.name) None l.k (drop l.k l.methods) ≡ first_where (is_constructor_named l.class l.name) None 0 l.methods

@@ -1,7 +1,0 @@
-use Rattle.std.proofs.Common.{◌≡◌, ℕ, List, None, drop}
-use Rattle.std.specs.HashMap.{get_by_text}
-use Rattle.ix_world.specs.First.{first_where, is_field_named}
-use Rattle.ix_world.proofs.named.own_fields.Given as goal
-
-abbrev pub invariant-loop-k : goal.invariant-loop-k
-invariant-loop-k l = (name : List ℕ) → first_where (is_field_named l.class name) (get_by_text l.table name) l.k (drop l.k l.fields) ≡ first_where (is_field_named l.class name) None 0 l.fields

@@ -1,3 +1,0 @@
-pub mod ClassUses
-pub mod EachOnce
-pub mod FirstFields

@@ -1,6 +1,0 @@
-use Rattle.std.proofs.Common.{◌≡◌, drop}
-use Rattle.ix_written.specs.Seen.{seen}
-use Rattle.ix_written.proofs.claims.is_among.Given as goal
-
-abbrev pub invariant-loop-other : goal.invariant-loop-other
-invariant-loop-other l = seen (drop l.other-index l.claims) l.claim ≡ seen l.claims l.claim
