@@ -15,7 +15,8 @@ use Rattle.ix_facts.specs.Stores.{Stored, Unreachable, Reached, SayTheSame}
 use Rattle.ix_facts.proofs.FactLists.{from_in_orders, in_in_orders}
 use Rattle.ix_facts.proofs.SaidLaws.{order_default}
 use Rattle.ix_cert.specs.Lines.{AreLinesOf, IsAmong, fact_text, ended, lines_text}
-use Rattle.ix_cert.specs.Labellings.{MayBeWritten, IsLabel, LabelsText, PartText, MethodsText, IsLabelling, has_part, profile_text}
+use Rattle.ix_cert.specs.Labellings.{MayBeWritten, IsLabel, LabelsText, PartText, MethodsText, IsLabelling, has_part}
+use Rattle.ix_core.specs.FirstLine.{profile_text}
 use Rattle.ix_cert.specs.Reading.{Lacks, EndsLabel, in_text_order}
 use Rattle.ix_cert.specs.SameLabels.{SameStores, SameLabels, HasSmallPaths}
 use Rattle.ix_cert.proofs.Bytes.{cancel, cut_once}

@@ -33,7 +33,8 @@ use Rattle.ix_fact_table.specs.FactOrder as keys
 use Rattle.ix_fact_table.specs.MeetLaws.{covers_key}
 use Rattle.ix_store.specs.WholeStores.{AreAStore}
 use Rattle.ix_cert.specs.Lines.{Ascend, AreLinesOf, IsAmong, path_text, sum_bound, fact_text, is_before, ended, lines_text}
-use Rattle.ix_cert.specs.Labellings.{IsLabel, LabelsText, PartText, MethodsText, IsLabelling, has_part, profile_text}
+use Rattle.ix_cert.specs.Labellings.{IsLabel, LabelsText, PartText, MethodsText, IsLabelling, has_part}
+use Rattle.ix_core.specs.FirstLine.{profile_text}
 use Rattle.ix_cert.specs.SameLabels.{SameStores, SameLabels}
 use Rattle.ix_cert.proofs.Bytes.{nil_middle, not_true}
 use Rattle.ix_cert.proofs.Orders.{before_flips, before_on, before_itself}

@@ -7,7 +7,8 @@ use Rattle.ix_core.specs.declared.program.Method.{Method}
 use Rattle.ix_core.specs.declared.program.Program.{Program}
 use Rattle.ix_facts.specs.Stores.{Stored, Unreachable, Reached}
 use Rattle.ix_cert.specs.Lines.{ended, lines_text}
-use Rattle.ix_cert.specs.Labellings.{IsLabel, IsLabelling, profile_text, LabelsText, PartText, MethodText, MethodsText, has_part, loops_of}
+use Rattle.ix_cert.specs.Labellings.{IsLabel, IsLabelling, LabelsText, PartText, MethodText, MethodsText, has_part, loops_of}
+use Rattle.ix_core.specs.FirstLine.{profile_text}
 use Rattle.ix_cert.specs.Adding.{Adds, AddsLabel, AreLabels, AreLabelsText, AreMethodsText, AreOwnLines, IsMethodText, MayBeLabel, MayBeLabels, MayLabel}
 use Rattle.ix_cert.specs.Reading.{LabelText, EndsLabel}
 use Rattle.ix_cert.proofs.Bytes.{cancel}

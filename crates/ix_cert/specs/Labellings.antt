@@ -4,9 +4,9 @@ use Rattle.ix_core.specs.declared.fact.Fact.{Fact}
 use Rattle.ix_core.specs.declared.fact.Path.{Path}
 use Rattle.ix_core.specs.declared.fact.Path.TheVariants.{Slot, FieldOf}
 use Rattle.ix_core.specs.declared.fact.Profile.{Profile}
-use Rattle.ix_core.specs.declared.fact.Profile.TheVariants.{Ideal, Int32}
 use Rattle.ix_core.specs.declared.program.Method.{Method}
 use Rattle.ix_core.specs.declared.program.Program.{Program}
+use Rattle.ix_core.specs.FirstLine.{first_line}
 use Rattle.ix_core.specs.Formed.{loop_numbers}
 use Rattle.ix_core.specs.Tables.{body_of}
 use Rattle.ix_facts.specs.Facts.{IsIn}
@@ -62,11 +62,7 @@ MethodsText fields number [] (stores ∷ labels) text rest = ⊥
 MethodsText fields number (method ∷ methods) [] text rest = ⊥
 MethodsText fields number (method ∷ methods) (stores ∷ labels) text rest = (later : List ℕ) × MethodText fields number method stores text later × MethodsText fields (suc number) methods labels later rest
 
-abbrev pub profile_text : Profile → List ℕ
-profile_text Ideal = codes "ideal"
-profile_text Int32 = codes "int32"
-
 -- The bytes are a certificate of the program, in this profile, with these labels: for each method a list, for each loop a store.
 abbrev pub IsLabelling : Program → Profile → List (List Stored) → List ℕ → Type 0
 IsLabelling program profile labels text =
-    (methods : List ℕ) × (text ≡ ended (codes "certificate 1 " ++ profile_text profile) ++ methods) × MethodsText (length program.fields) 0 program.methods labels methods (codes "end\n")
+    (methods : List ℕ) × (text ≡ first_line profile ++ methods) × MethodsText (length program.fields) 0 program.methods labels methods (codes "end\n")

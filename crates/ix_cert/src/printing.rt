@@ -3,7 +3,8 @@
 ghost use Rattle.std.specs.Prelude.{◌≡◌, ◌++◌, length, map, IfOk, OnOk, codes, decimal, string_bytes};
 ghost use Rattle.ix_store.specs.StoredFacts.{stored};
 ghost use Rattle.ix_cert.specs.Lines.{ended};
-ghost use Rattle.ix_cert.specs.Labellings.{IsLabelling, profile_text};
+ghost use Rattle.ix_cert.specs.Labellings.{IsLabelling};
+ghost use Rattle.ix_core.specs.FirstLine.{profile_text};
 ghost use Rattle.ix_cert.specs.Adding.{Adds, AddsLabel, AddsStore, AreLabels, AreLabelsText, AreMethodsText, IsMethodText};
 
 use crate::lines::add_lines;

@@ -5,7 +5,8 @@ ghost use Rattle.ix_core.specs.declared.fact.Profile.{Profile};
 ghost use Rattle.ix_facts.specs.Stores.{Stored};
 ghost use Rattle.ix_store.specs.StoredFacts.{stored};
 ghost use Rattle.ix_cert.specs.Lines.{ended};
-ghost use Rattle.ix_cert.specs.Labellings.{IsLabelling, LabelsText, MethodText, MethodsText, PartText, loops_of, profile_text};
+ghost use Rattle.ix_cert.specs.Labellings.{IsLabelling, LabelsText, MethodText, MethodsText, PartText, loops_of};
+ghost use Rattle.ix_core.specs.FirstLine.{profile_text};
 ghost use Rattle.ix_cert.specs.Reading.{EndsLabel, LabelText, IsMemory};
 
 use crate::cut::behind;

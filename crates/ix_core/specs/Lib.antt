@@ -23,6 +23,8 @@ pub mod CodePlaces
 pub mod EndingPlaces
 -- What is asked of a program that is checked.
 pub mod Ready
+-- The first line of a certificate.
+pub mod FirstLine
 pub mod PathNumber
 -- Passed on from ix_num.
 pub use Rattle.ix_num.specs.Arithmetic

@@ -5,6 +5,7 @@ use Rattle.ix_core.specs.declared.claim.Name.TheVariants.{Local}
 use Rattle.ix_core.specs.declared.program.Local.{Local as Variable}
 use Rattle.ix_core.specs.declared.program.Method.{Method}
 use Rattle.ix_core.specs.declared.program.Program.{Program}
+use Rattle.ix_core.specs.Formed.{Formed}
 use Rattle.ix_core.specs.Objects.{Names}
 use Rattle.ix_core.specs.Tables.{method_at}
 
@@ -28,3 +29,8 @@ pub record CanCheck (program : Program) : Type 0 where
   pub methods : length program.methods < 2 ^ 32
   pub few : HasFew program
   pub apart : LocalsApart program
+
+-- A program that may be checked: it is formed, and has what is asked beside.
+pub record IsReady (program : Program) : Type 0 where
+  pub formed : Formed program
+  pub can : CanCheck program

@@ -2,7 +2,7 @@ use Rattle.std.proofs.Common.{◌≡◌, ◌++◌, codes, map, length, ap, sym, 
 use Rattle.std.specs.Prelude.{string_bytes}
 use Rattle.ix_store.specs.StoredFacts.{stored}
 use Rattle.ix_cert.specs.Lines.{ended}
-use Rattle.ix_cert.specs.Labellings.{profile_text}
+use Rattle.ix_core.specs.FirstLine.{profile_text}
 use Rattle.ix_cert.specs.Adding.{Adds, AreMethodsText}
 use Rattle.ix_cert.proofs.Parts.{length_map, same_length, whole_text}
 use Rattle.ix_cert.proofs.printing.print.Goals as goal
