@@ -1,17 +1,10 @@
-//! The bounds that facts give, each by the facts that name its paths.
+//! The bounds that facts give, each by the facts that name its paths, and which claims what is known proves.
 //!
-//! What goes in: facts in all their orders, with those that name a path at hand. What comes out: what an int or a length is at least and at most, differences,
-//! bounds from an array's end, and whether two arrays have the same length.
-//! The contract: each is the bound of `ix_facts`, of all facts.
-//! It stands on `ix_facts` for the facts on a path and for bounds.
-//! It never looks at how facts are kept.
-//!
-//! Which claims what is known proves.
-//!
-//! What goes in: what is known, a claim and a path. What comes out: whether the claim of the path is proved.
-//! The contract: `proves` of `ix_facts`, exactly.
-//! It stands on `ix_facts` for bounds, by `Know`.
-//! It never looks at a table, nor at the program.
+//! What goes in: facts in all their orders, with those that name a path at hand; a claim and a path. What comes out: what an int or a length is at least and at most, differences,
+//! bounds from an array's end, and whether two arrays have the same length; whether the claim of the path is proved.
+//! The contract: each is the bound of `ix_facts`, of all facts; and `proves` of it, exactly.
+//! It stands on `ix_facts` for the facts on a path, for bounds and for claims.
+//! It never looks at how facts are kept, nor at the program.
 #![tactic(auto)]
 
 mod ends;

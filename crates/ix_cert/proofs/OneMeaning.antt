@@ -128,7 +128,7 @@ methods_once fields y number (method ∷ methods) few (stores ∷ labels) (more 
     let later = subst (λ xs. MethodsText fields (suc number) methods others xs behind) (sym part.0) u.2 in
     (record { count = t.1.0; other = u.1.0; same = part.1 }, methods_once fields y (suc number) methods (λ k within. few (suc k) (omega (arith, within))) labels others t.0 rest behind t.2 later ends stops)
 
-profile_once : (profile other : Profile) (a b : List ℕ) → ended (codes "certificate 1 " ++ profile_text profile) ++ a ≡ ended (codes "certificate 1 " ++ profile_text other) ++ b → (profile ≡ other) × (a ≡ b)
+pub profile_once : (profile other : Profile) (a b : List ℕ) → ended (codes "certificate 1 " ++ profile_text profile) ++ a ≡ ended (codes "certificate 1 " ++ profile_text other) ++ b → (profile ≡ other) × (a ≡ b)
 profile_once Ideal Ideal a b e = (refl, cancel (codes "certificate 1 ideal\n") a b e)
 profile_once Ideal Int32 a b e = absurd (differ 100 110 refl (ap (λ xs. get_or xs 15 0) e))
 profile_once Int32 Ideal a b e = absurd (differ 110 100 refl (ap (λ xs. get_or xs 15 0) e))

@@ -1,18 +1,10 @@
-//! The members of all classes, by their numbers and by their names, and what one hides or overrides.
+//! The members of all classes, by their numbers and by their names, what one hides or overrides, and the types and claims that declarations write.
 //!
-//! What goes in: the classes of the tree. What comes out: their fields, methods and constructors, and which of them a name means in a class.
-//! Of one field or method comes out whether it breaks a rule on inherited members.
-//! The contract: `world` of `ix_meaning`'s `Members`, member for member, and its `Inheritance`.
-//! It stands on the types of `ix_symbols` and `ix_class_members`, and on maps of std for names.
+//! What goes in: the classes of the tree; of a declaration its declarators, annotations and type. What comes out: their fields, methods and constructors, and which of them a name means in a class;
+//! whether a field or a method breaks a rule on inherited members; which annotations each declarator has, its type and its claims, and what is noted of them.
+//! The contract: `world` of `ix_meaning`'s `Members`, member for member, and its `Inheritance`; `Declarators`, kept by `declarators.rt`, and `Annotated`.
+//! It stands on the types of `ix_symbols`, on the annotations of `ix_annot`, and on `indexmap` for names, in the order in which they are first seen.
 //! It never looks at a body.
-//!
-//! Types and claims as declarations write them.
-//!
-//! What goes in: the declarators of a declaration, its annotations and its type. What comes out: which annotations each declarator has, its
-//! type and its claims, and what is noted of them.
-//! The contract: `Declarators` of `ix_meaning`, kept by `declarators.rt`, and `Annotated`, kept by the other files.
-//! It stands on the annotations of `ix_annot` and on the definitions of `ix_meaning`.
-//! It never looks at a member or at a body.
 #![tactic(auto)]
 
 mod claims;

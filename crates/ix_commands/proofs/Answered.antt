@@ -42,7 +42,7 @@ use Rattle.ix_commands.specs.Answers.{Answers, IsVerdict, AnswersFound, AnswersO
 use Rattle.ix_replies.specs.Said.{verdict, bench_verdict}
 use Rattle.ix_front.specs.Sources.{source_bytes, source_name, judged_bytes, file_in, cert_in}
 use Rattle.ix_front.specs.Opened.{bytes_of, cert_bytes_of}
-use Rattle.ix_commands.specs.Promises.{SafeBytes, SafeOnMachine, SafeProgram, PromisesWhole, PromisesOn, Promises}
+use Rattle.ix_commands.specs.Promises.{SafeBytes, SafeOnMachine, SafeProgram, SafeAsNamed, AcceptedBy, SafeText, EntersBytes, PromisesWhole, PromisesOn, Promises}
 use Rattle.ix_replies.specs.Delivery.{IsOnly}
 use Rattle.ix_replies.specs.declared.written_reply.Reply.{Reply}
 use Rattle.ix_replies.specs.Replies.{Says, shown}
@@ -56,6 +56,13 @@ use Rattle.ix_front.specs.Findings.{HasFormed}
 use Rattle.ix_core.specs.Ready.{CanCheck}
 use Rattle.ix_runs.proofs.OneRun.{runs_one, start_answers}
 use Rattle.ix_replies.proofs.Verdicts.{verdict_answers as verdict_said, bench_answers}
+use Rattle.ix_runs.specs.declared.running.RunEnd.{RunEnd}
+use Rattle.ix_runs.specs.Entering.{Entering}
+use Rattle.ix_runs.specs.Runs.{RunAnswers, status_of}
+use Rattle.ix_runs.proofs.RunsEnter.{run_enters, not_limit, not_rejected}
+use Rattle.ix_source.proofs.Anchored.{entered}
+use Rattle.ix_words.specs.Words.{Text}
+use Rattle.ix_commands.proofs.WholeSources.{IsWhole, whole_source}
 use Rattle.ix_commands.proofs.Verifiable.{can_verify}
 use Rattle.ix_commands.proofs.GuardsAnswered.{one_guarding, guards_answers}
 
@@ -227,89 +234,72 @@ other_status result other so not_so same = cc (ap is_answer same)
 pub status_is : (one other : Answer) → one ≡ other → one.status ≡ other.status
 status_is one other is = ap (λ (a : Answer). a.status) is
 
-at_limit : (answer : Answer) → answer.status ≡ Limit → answer.status ≡ Done → ⊥
+pub at_limit : (answer : Answer) → answer.status ≡ Limit → answer.status ≡ Done → ⊥
 at_limit answer status done = cc
 
-rejected : (answer : Answer) → answer.status ≡ Rejected → answer.status ≡ Done → ⊥
+pub rejected : (answer : Answer) → answer.status ≡ Rejected → answer.status ≡ Done → ⊥
 rejected answer status done = cc
 
-undone_broken : (command : Command) (bytes : List ℕ) (cert : Option (List ℕ)) (at : ℕ) (key : List ℕ) (finding : Finding) (answer : Answer)
-    → Some (Broken at key) ≡ Some finding → AnswersOn command bytes cert finding answer → answer.status ≡ Done → ⊥
-undone_broken command bytes cert at key finding answer is on done =
-    let on_broken : AnswersOn command bytes cert (Broken at key) answer = subst (λ (f : Finding). AnswersOn command bytes cert f answer) (sym (some_is (Broken at key) finding is)) on in
-    let status : answer.status ≡ Rejected = status_is answer _ on_broken in cc
+done_whole : (command : Command) (bytes : List ℕ) (cert : Option (List ℕ)) (finding : Finding) (answer : Answer) → AnswersOn command bytes cert finding answer → answer.status ≡ Done
+    → (program : Program) × (finding ≡ Whole program)
+done_whole command bytes cert TooLong answer on done = absurd (at_limit answer (status_is answer _ on) done)
+done_whole command bytes cert (Broken at key) answer on done = absurd (rejected answer (status_is answer _ on) done)
+done_whole command bytes cert (Past at name) answer on done = absurd (at_limit answer (status_is answer _ on) done)
+done_whole command bytes cert (Misnamed errors) answer on done = absurd (rejected answer (status_is answer _ on) done)
+done_whole command bytes cert (Whole program) answer on done = (program, refl)
 
-undone_past : (command : Command) (bytes : List ℕ) (cert : Option (List ℕ)) (at : ℕ) (name : List ℕ) (finding : Finding) (answer : Answer)
-    → Some (Past at name) ≡ Some finding → AnswersOn command bytes cert finding answer → answer.status ≡ Done → ⊥
-undone_past command bytes cert at name finding answer is on done =
-    let on_past : AnswersOn command bytes cert (Past at name) answer = subst (λ (f : Finding). AnswersOn command bytes cert f answer) (sym (some_is (Past at name) finding is)) on in
-    let status : answer.status ≡ Limit = status_is answer _ on_past in cc
+run_whole : (command : Command) (bytes : List ℕ) (cert : Option (List ℕ)) (finding : Finding) (answer : Answer) → AnswersOn command bytes cert finding answer → (end : RunEnd) → answer.status ≡ status_of end
+    → (program : Program) × (finding ≡ Whole program)
+run_whole command bytes cert TooLong answer on end is = absurd (not_limit end (sym (status_is answer _ on) ∙ is))
+run_whole command bytes cert (Broken at key) answer on end is = absurd (not_rejected end (sym (status_is answer _ on) ∙ is))
+run_whole command bytes cert (Past at name) answer on end is = absurd (not_limit end (sym (status_is answer _ on) ∙ is))
+run_whole command bytes cert (Misnamed errors) answer on end is = absurd (not_rejected end (sym (status_is answer _ on) ∙ is))
+run_whole command bytes cert (Whole program) answer on end is = (program, refl)
 
-lex_undone : (command : Command) (bytes : List ℕ) (cert : Option (List ℕ)) (why : LexError) (finding : Finding) (answer : Answer)
-    → of_lex_error why ≡ Some finding → AnswersOn command bytes cert finding answer → answer.status ≡ Done → ⊥
-lex_undone command bytes cert (lexical.BadUtf8 at) finding answer is on done = undone_broken command bytes cert at _ finding answer is on done
-lex_undone command bytes cert (lexical.BadChar at) finding answer is on done = undone_broken command bytes cert at _ finding answer is on done
-lex_undone command bytes cert (lexical.OpenComment at) finding answer is on done = undone_broken command bytes cert at _ finding answer is on done
-lex_undone command bytes cert (lexical.OpenString at) finding answer is on done = undone_broken command bytes cert at _ finding answer is on done
-lex_undone command bytes cert (lexical.BadNumber at) finding answer is on done = undone_broken command bytes cert at _ finding answer is on done
-lex_undone command bytes cert (lexical.TooMany at) finding answer is on done = undone_past command bytes cert at _ finding answer is on done
-lex_undone command bytes cert lexical.Memory finding answer is on done = cc
-
-parse_undone : (command : Command) (bytes : List ℕ) (cert : Option (List ℕ)) (tokens : List Token) (end : ℕ) (why : ParseError) (finding : Finding) (answer : Answer)
-    → of_parse_error tokens end why ≡ Some finding → AnswersOn command bytes cert finding answer → answer.status ≡ Done → ⊥
-parse_undone command bytes cert tokens end (syntax.Syntax number) finding answer is on done = undone_broken command bytes cert _ _ finding answer is on done
-parse_undone command bytes cert tokens end (syntax.TooDeep from) finding answer is on done = undone_past command bytes cert _ _ finding answer is on done
-parse_undone command bytes cert tokens end syntax.Memory finding answer is on done = cc
-
--- The bytes are a source with a program, and this is what is found of them.
-record IsSource (bytes : List ℕ) (finding : Finding) : Type 0 where
-  tokens : List Token
-  lexing : Tokens bytes tokens
-  source : Source
-  has : HasTree tokens source
-  program : Program
-  fine : IsParsed source
-  accepts : Accepts source
-  plain : program_of (names source) source.classes ≡ Ok program
-  whole : finding ≡ Whole program
-
-done_source : (command : Command) (bytes : List ℕ) (cert : Option (List ℕ)) (finding : Finding) (answer : Answer) → Found bytes finding → AnswersOn command bytes cert finding answer → answer.status ≡ Done
-    → IsSource bytes finding
-done_source command bytes cert _ answer (too_long past) on done = absurd (at_limit answer (status_is answer _ on) done)
-done_source command bytes cert _ answer (no_tokens {finding} why short fails is) on done = absurd (lex_undone command bytes cert why finding answer is on done)
-done_source command bytes cert _ answer (lexed {finding} tokens short lexing few (no_tree why none is)) on done = absurd (parse_undone command bytes cert tokens (length bytes) why finding answer is on done)
-done_source command bytes cert _ answer (lexed tokens short lexing few (tree source has (passes_limit p is))) on done = absurd (at_limit answer (status_is answer _ on) done)
-done_source command bytes cert _ answer (lexed tokens short lexing few (tree source has (misnames errors found))) on done = absurd (rejected answer (status_is answer _ on) done)
-done_source command bytes cert _ answer (lexed tokens short lexing few (tree source has (inherits p none no_errors is))) on done = absurd (at_limit answer (status_is answer _ on) done)
-done_source command bytes cert _ answer (lexed tokens short lexing few (tree source has (too_big p accepts is))) on done = absurd (at_limit answer (status_is answer _ on) done)
-done_source command bytes cert _ answer (lexed tokens short lexing few (tree source has (named made accepts is))) on done = record {
-  tokens = tokens;
-  lexing = lexing;
-  source = source;
-  has = has;
-  program = made;
-  fine = tree_parsed bytes tokens source lexing few has;
-  accepts = accepts;
-  plain = is;
-  whole = refl;
+safe_bytes : (bytes : List ℕ) (program : Program) (profile : Profile) → IsWhole bytes program → Safe program profile → SafeBytes profile bytes
+safe_bytes bytes program profile whole safe = record {
+  tokens = whole.tokens;
+  lexed = whole.lexing;
+  source = whole.source;
+  parsed = whole.has;
+  safe = safe_source whole.source program (tree_parsed bytes whole.tokens whole.source whole.lexing whole.few whole.has) whole.accepts whole.plain profile safe;
 }
 
-abbrev safe_bytes : (bytes : List ℕ) (finding : Finding) (profile : Profile) (s : IsSource bytes finding) → Safe s.program profile → SafeBytes profile bytes
-safe_bytes bytes finding profile s safe = record {
-  tokens = s.tokens;
-  lexed = s.lexing;
-  source = s.source;
-  parsed = s.has;
-  safe = safe_source s.source s.program s.fine s.accepts s.plain profile safe;
+safe_on_machine : (bytes : List ℕ) (program : Program) (profile : Profile) → IsWhole bytes program → Safe program profile → SafeOnMachine profile bytes
+safe_on_machine bytes program profile whole safe = record {
+  tokens = whole.tokens;
+  lexed = whole.lexing;
+  source = whole.source;
+  parsed = whole.has;
+  safe = record { program = program; plain = whole.plain; safe = safe };
 }
 
-abbrev safe_on_machine : (bytes : List ℕ) (finding : Finding) (profile : Profile) (s : IsSource bytes finding) → Safe s.program profile → SafeOnMachine profile bytes
-safe_on_machine bytes finding profile s safe = record {
-  tokens = s.tokens;
-  lexed = s.lexing;
-  source = s.source;
-  parsed = s.has;
-  safe = record { program = s.program; plain = s.plain; safe = safe };
+verified_safe : (bytes : List ℕ) (cert : Option (List ℕ)) (program : Program) (finding : Finding) → Found bytes finding → finding ≡ Whole program → SafeProgram program cert → SafeAsNamed bytes cert × AcceptedBy bytes cert
+verified_safe bytes cert program finding found is by =
+    let whole = whole_source bytes program finding found is in
+    let profile = by.verified.profile in (
+      record {
+        text = by.text;
+        opened = by.opened;
+        profile = profile;
+        rest = by.accepted.gives.0;
+        named = by.accepted.gives.1;
+        safe = safe_bytes bytes program profile whole by.safe;
+        on_machine = safe_on_machine bytes program profile whole by.safe;
+      },
+      record { text = by.text; opened = by.opened; program = program; found = subst (Found bytes) is found; verified = by.verified; accepted = by.accepted },
+    )
+
+run_enters_bytes : (bytes : List ℕ) (program : Program) (entry : Text) (words : List Text) → IsWhole bytes program → Entering program entry words → EntersBytes bytes entry words
+run_enters_bytes bytes program entry words whole by = record {
+  tokens = whole.tokens;
+  lexed = whole.lexing;
+  source = whole.source;
+  parsed = whole.has;
+  program = program;
+  plain = whole.plain;
+  by = by;
+  enters = entered whole.source program (tree_parsed bytes whole.tokens whole.source whole.lexing whole.few whole.has) whole.accepts whole.plain by.method by.inputs by.begins;
 }
 
 -- what is promised of an answer on what is found is promised of one on these bytes
@@ -317,23 +307,26 @@ pub promised : (command : Command) (bytes : List ℕ) (cert : Option (List ℕ))
     → Promises command bytes cert answer
 promised (Check sums certificate library file) bytes cert finding answer found on safe = λ done.
     let command : Command = Check sums certificate library file in
-    let s = done_source command bytes cert finding answer found on done in
-    let safe : Safe s.program (profile_of sums) = subst (λ (f : Finding). PromisesOn command cert f answer) s.whole safe done in
-    (safe_bytes bytes finding (profile_of sums) s safe, safe_on_machine bytes finding (profile_of sums) s safe)
+    let is = done_whole command bytes cert finding answer on done in
+    let whole = whole_source bytes is.0 finding found is.1 in
+    let proved : Safe is.0 (profile_of sums) = subst (λ (f : Finding). PromisesOn command cert f answer) is.1 safe done in
+    (safe_bytes bytes is.0 (profile_of sums) whole proved, safe_on_machine bytes is.0 (profile_of sums) whole proved)
 promised (Verify library file name) bytes cert finding answer found on safe = λ done.
     let command : Command = Verify library file name in
-    let s = done_source command bytes cert finding answer found on done in
-    let by : SafeProgram s.program cert = subst (λ (f : Finding). PromisesOn command cert f answer) s.whole safe done in
-    record {
-      program = s.program;
-      found = subst (Found bytes) s.whole found;
-      by = by;
-      safe = safe_bytes bytes finding by.verified.profile s by.safe;
-      on_machine = safe_on_machine bytes finding by.verified.profile s by.safe;
-    }
-promised (Run limits traced library file entry inputs) bytes cert finding answer found on safe = tt
+    let is = done_whole command bytes cert finding answer on done in
+    verified_safe bytes cert is.0 finding found is.1 (subst (λ (f : Finding). PromisesOn command cert f answer) is.1 safe done)
+promised (Run limits traced library file entry inputs) bytes cert finding answer found on safe = λ end status.
+    let command : Command = Run limits traced library file entry inputs in
+    let is = run_whole command bytes cert finding answer on end status in
+    let right : RunAnswers traced is.0 bytes limits entry inputs answer = subst (λ (f : Finding). AnswersOn command bytes cert f answer) is.1 on in
+    run_enters_bytes bytes is.0 entry inputs (whole_source bytes is.0 finding found is.1) (run_enters traced is.0 bytes limits entry inputs answer right end status)
 promised (Bench count) bytes cert finding answer found on safe = tt
-promised (Guard sums file) bytes cert finding answer found on safe = tt
+promised (Guard sums file) bytes cert finding answer found on safe = λ done.
+    let command : Command = Guard sums file in
+    let is = done_whole command bytes cert finding answer on done in
+    let text : SafeText (profile_of sums) answer.out = subst (λ (f : Finding). PromisesOn command cert f answer) is.1 safe done in
+    let whole = whole_source answer.out text.program (Whole text.program) text.found refl in
+    (safe_bytes answer.out text.program (profile_of sums) whole text.safe, safe_on_machine answer.out text.program (profile_of sums) whole text.safe)
 
 -- what is right of a reply is right of the answer that it says
 pub said_right : (IsRight : Answer → Type 0) (reply : Result Reply AllocError) (a : Answer) → IfOk reply (λ r. IsRight (shown r)) → Says reply a → IsRight a

@@ -4,6 +4,7 @@ use Rattle.ix_core.specs.declared.error.Error.{Error}
 use Rattle.ix_core.specs.declared.fact.Profile.{Profile}
 use Rattle.ix_replies.specs.Answer.{Answer, out_answer}
 use Rattle.ix_replies.specs.Statuses.{is_answer}
+use Rattle.ix_replies.specs.declared.status.Status.TheVariants.{Done}
 use Rattle.ix_front.specs.Found.{Finding, TooLong, Broken, Past, Misnamed, Whole, Found, too_long, no_tokens, lexed}
 use Rattle.ix_certify.specs.MethodErrors.{IsError}
 use Rattle.ix_front.proofs.OneFinding.{one_finding}
@@ -55,3 +56,9 @@ found_answers profile name text (Whole program) answer right = rw right.2 (guard
 
 pub guards_answers : (profile : Profile) (name bytes : List ℕ) (errors : List Error) (answer : Answer) → Guards profile name bytes errors answer → is_answer answer.status ≡ true
 guards_answers profile name bytes errors answer right = found_answers profile name right.0 right.2 answer right.4
+
+-- ---- what is written without errors
+
+pub guard_done : (errors : List Error) → guard_status errors ≡ Done → errors ≡ []
+guard_done [] is = refl
+guard_done (error ∷ errors) is = cc

@@ -4,4 +4,5 @@ mod SomeAnswer
 mod WholeSources
 mod SomeGuarded
 mod Verifiable
+mod NamedProfiles
 pub mod GuardedFindings

@@ -7,7 +7,8 @@ ghost use Rattle.ix_front.specs.Findings.{seen, IsPlaced, HasFormed};
 ghost use Rattle.ix_core.specs.Ready.{CanCheck};
 ghost use Rattle.ix_commands.specs.Answers as spec;
 ghost use Rattle.ix_words.specs.Commands.{Guard};
-ghost use Rattle.ix_commands.specs.Judgements.{profile_of};
+ghost use Rattle.ix_commands.specs.Judgements.{profile_of as spec_profile_of};
+ghost use Rattle.ix_commands.specs.Promises.{SafeText};
 
 use crate::judging::profile_of;
 use ix_certify::check_program;
@@ -38,10 +39,12 @@ fn written_reply(
     program: &Program,
 ) -> Result<Reply, AllocError>
     requires { record {
+      found : Found text.items (Whole program.now);
       formed : Formed program.now;
       can : CanCheck program.now;
     } }
-    ensures { IfOk result (λ reply. spec.AnswersGuarded profile text.items program.now (shown reply)) }
+    ensures answers { IfOk result (λ reply. spec.AnswersGuarded profile text.items program.now (shown reply)) }
+    ensures safe { IfOk result (λ reply. (shown reply).status ≡ Status.Done → SafeText profile (shown reply).out) }
 {
     let errors = check_program(alloc, program, profile)?;
     Ok(on_bytes(alloc, guard_status(&errors), text))
@@ -55,10 +58,12 @@ fn guarded_reply(
     text: Vec<u8>,
     finding: &Finding,
 ) -> Result<Reply, AllocError>
+    requires found { Found text.items (seen finding.now) }
     requires short { seen finding.now ≢ TooLong → length text.items ≤ 1048576 }
     requires placed { IsPlaced (length text.items) (seen finding.now) }
     requires formed { HasFormed (seen finding.now) }
-    ensures { IfOk result (λ reply. spec.AnswersFound name.now text.items (spec.AnswersGuarded profile text.items) (seen finding.now) (shown reply)) }
+    ensures answers { IfOk result (λ reply. spec.AnswersFound name.now text.items (spec.AnswersGuarded profile text.items) (seen finding.now) (shown reply)) }
+    ensures safe { IfOk result (λ reply. (shown reply).status ≡ Status.Done → SafeText profile (shown reply).out) }
 {
     match finding {
         Finding::TooLong => too_long_reply(alloc, name),
@@ -81,7 +86,8 @@ pub(crate) fn guard_reply(
     requires short { length bytes.now ≤ 1048576 }
     requires formed { Formed program.now }
     requires can { CanCheck program.now }
-    ensures { IfOk result (λ reply. (cert : Option (List ℕ)) → spec.AnswersWhole (Guard sums name.now) bytes.now cert program.now (shown reply)) }
+    ensures answers { IfOk result (λ reply. (cert : Option (List ℕ)) → spec.AnswersWhole (Guard sums name.now) bytes.now cert program.now (shown reply)) }
+    ensures safe { IfOk result (λ reply. (shown reply).status ≡ Status.Done → SafeText (spec_profile_of sums) (shown reply).out) }
 {
     let profile = profile_of(sums);
     let errors = check_program(alloc, program, profile)?;

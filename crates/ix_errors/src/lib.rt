@@ -1,18 +1,12 @@
-//! The errors of the operations of one method, and what it may not do by its text alone: assign a parameter that a claim of its result or a post names, and let `this` of a constructor
-//! escape.
+//! The errors of one method: of its operations, its signature, its objects and its text, and the list of errors, in their order, each once.
 //!
-//! What goes in: a program, one of its methods, an operation, and the store before it. What comes out: the errors of the operation.
-//! The contract: each list has exactly the errors that the rules of `ix_sign` derive; by the text those of `AssignsNamed`, `OpEscapes` and `TestEscapes`.
-//! It stands on `ix_errors` for the claims that aren't proved, on `ix_sign` for rules and variables.
+//! What goes in: a program, one of its methods, an operation, and the store before it. What comes out: the errors of the operation, each with the place of its claim: accesses and lengths that aren't
+//! proved, claims of arguments, results, fields and overridden methods, and posts; by the text alone a parameter that is assigned though a claim of the result or a post names it, and a `this`
+//! of a constructor that escapes. Of errors in any order, also several times, comes out how they are listed.
+//! The contract: each list has exactly the errors that the rules of `ix_sign` derive; by the text those of `AssignsNamed`, `OpEscapes` and `TestEscapes`; `IsErrorList` of `specs/ErrorList.antt`, and
+//! no two such lists are one of the same errors (law).
+//! It stands on `ix_store` for stores, on `ix_signatures` for what claims add and refuse, on `ix_sign` for rules and variables, on `ix_core` for fields.
 //! It never looks at how a body is put together, nor at the stores behind operations.
-//!
-//! The errors of signatures and objects: which claims of arguments, results, fields and overridden methods, and which posts, aren't proved; and the list of errors, in their order, each once.
-//!
-//! What goes in: a program, a method, an operation, and the store before it. What comes out: the errors, each with the place of its claim.
-//! Of errors in any order, also several times, comes out how they are listed.
-//! The contract: each list has exactly the errors that the written rule derives; `IsErrorList` of `specs/ErrorList.antt`, and no two such lists are one of the same errors (law).
-//! It stands on `ix_store` for stores, on `ix_signatures` for what claims add and refuse, on `ix_core` for fields.
-//! It never looks at a body, nor at the stores behind operations.
 #![tactic(auto)]
 
 mod accesses;

@@ -3,7 +3,7 @@
 //! What goes in: a name or an expression of the tree, the members of all classes, and the parameters and locals in scope. What comes out: what the name means there, also in an
 //! annotation; the type of the expression; and the notes of all that it says, with an error for each rule that is broken.
 //! The contract: `reading` of `ix_meaning`'s `Values`, and its `Scope` and `Rules`.
-//! It stands on `ix_class_members`, and on `indexmap` for the names of locals.
+//! It stands on `ix_class_members`, on `indexmap` for the names of locals, in the order in which they are declared, and on `smallvec` for the scopes that are open.
 //! It never looks at a statement.
 #![tactic(auto)]
 

@@ -1,17 +1,11 @@
 //! Facts by the paths that they name, the order of paths, and the facts that stay in a step.
 //!
-//! What goes in: facts, a path, an operation, landmarks. What comes out: the facts on a path, of few facts all, of many those of a near path by its place and those of any other by binary
-//! search; the ints and the arrays that facts name, each once; whether a fact names a path that is changed, and the facts that are kept.
-//! The contract: `Grouped` has the facts that name a path; `PathSet` is a set of paths in order; the definitions of `ix_facts` on names, orders of paths and rounding, exactly.
+//! What goes in: facts, a path, an operation, a field, a call or a scope, landmarks. What comes out: the facts on a path, of few facts all, of many those of a near path by its place and those of any
+//! other by binary search; the ints and the arrays that facts name, each once; whether a fact names a path that is changed, and the facts that are kept.
+//! The contract: `Grouped` has the facts that name a path; `PathSet` is a set of paths in order; the definitions of `ix_facts` on names, orders of paths, rounding, and on what a step may change
+//! (`is_changed`, `without`), exactly.
 //! It stands on `ix_facts` for facts.
 //! It never looks at what facts say of their paths, nor at what follows from them.
-//!
-//! What a step may change.
-//!
-//! What goes in: an operation, a path, a field, a call or a scope, and facts. What comes out: the facts that name no path that it may change.
-//! The contract: `is_changed`, and `without` of `ix_facts`, exactly.
-//! It stands on `ix_fact_paths` for the paths that facts name.
-//! It never looks at what follows from facts.
 #![tactic(auto)]
 
 mod by_path;

@@ -1,16 +1,11 @@
-//! Tables of facts, of one kind or of any.
+//! Tables of facts, of one kind or of any, and what follows from facts.
 //!
-//! What goes in: facts. What comes out: of each key one fact, in the order of keys: what the facts say of it together.
-//! The contract: `IsTable` of `ix_facts`, exactly; the join says what both tables say (`IsCommon`); the order is that of what tables say (`SaysAll`).
-//! It stands on `ix_facts` for facts and what they say, on `ix_lattice` for ranks.
-//! It never looks at a rule: which facts an operation gives is told to it.
-//!
-//! What follows from facts, as a list: what holds along arrays of one length, searches, negative answers and classes of ints.
-//!
-//! What goes in: facts. What comes out: more facts, so that tables of both say all that follows from the facts, and nothing else.
-//! The contract: `more_that_follows`, and `more_beside` of closed facts and few new ones, over `Follows` of `ix_facts`.
-//! It stands on `ix_fact_table` for the ranges among the facts, on `ix_fact_paths` for sets of paths.
-//! It never looks at how the list is kept, nor at the program.
+//! What goes in: facts. What comes out: of each key one fact, in the order of keys, what the facts say of it together; and more facts, as a list, so that tables of both say all that follows from
+//! the facts: what holds along arrays of one length, searches, negative answers and classes of ints.
+//! The contract: `IsTable` of `ix_facts`, exactly; the join says what both tables say (`IsCommon`); the order is that of what tables say (`SaysAll`); `more_that_follows`, and `more_beside` of closed
+//! facts and few new ones, over `Follows` of `ix_facts`.
+//! It stands on `ix_facts` for facts and what they say, on `ix_fact_paths` for sets of paths, on `ix_intervals` for constants, on `ix_lattice` for ranks.
+//! It never looks at a rule of an operation: which facts it gives is told to it; nor at the program.
 #![tactic(auto)]
 
 mod apart;

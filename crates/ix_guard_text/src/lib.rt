@@ -1,7 +1,8 @@
-//! Laws: the text with guards is an accepted source, where its parts stand, and what its names mean.
+//! The guarded text of the bytes of a source; and laws: it is an accepted source, where its parts stand, and what its names mean.
 //!
-//! What goes in and what comes out: nothing; these are laws over the definitions of `ix_guard`, of the lexer, of the grammar and of the notes of a source.
-//! The contract, from tokens to names:
+//! What goes in: the bytes of a source without errors on names, and the errors of its program. What comes out: the bytes with the guards. The laws are over the definitions of `ix_guard`, of the
+//! lexer, of the grammar and of the notes of a source.
+//! The contract: `IsGuarded` of `specs/Guarding.antt`, and that the new bytes derive the guarded tree up to places; only want of memory stands in the way. The laws, from tokens to names:
 //! - `inserted_tokens` of `InsertedTexts`: the tokens of a text with texts between its tokens are of the kinds of the old ones with those of the inserted texts between them. `bare_source` is a
 //!   tree with one place everywhere; `source_again` of `SourcesAgain`: tokens of the same kinds have the same tree up to places. `moved_source` is a tree with each place moved;
 //!   `source_moves` of `SourcesMoved`: the moved tokens of a source are one, with the moved tree.
@@ -18,16 +19,9 @@
 //! - `placed_says` of `PlacedSays`: at each place moved the guarded text's names say what the source's say at the place; and `placed_meant` of `PlacedMeant`: the names of a test
 //!   mean what those of its access mean. Without tests it is `moved_says` of `MovedSays`, for places that are moved as `moving_is_injective` of `MovingApart` has it: no two come to one.
 //!
-//! They stand on the texts, trees and tests of `ix_guard`, the tokens of `ix_lexer`, the grammar of `ix_grammar`, the notes of `ix_meaning`, and on what `ix_formed` says of the notes of
+//! It stands on the texts, trees and tests of `ix_guard`, on the lexer, the parser and names for the tree and the table, on the notes of `ix_meaning`, and on what `ix_formed` says of those of
 //! accepted sources.
-//! They never look at how a text is read or written, at which accesses are proved, nor at how a source is run.
-//!
-//! The guarded text of the bytes of a source.
-//!
-//! What goes in: the bytes of a source without errors on names, and the errors of its program. What comes out: the bytes with the guards.
-//! The contract: `IsGuarded` of `specs/Guarding.antt`, and that the new bytes derive the guarded tree up to places; only want of memory stands in the way.
-//! It stands on the lexer, the parser and names for the tree and the table, on `ix_guard` for the guards, on `ix_guard_text` for what their text derives.
-//! It never looks at words or files, and makes no program.
+//! It never looks at words or files, at which accesses are proved, nor at how a source is run, and makes no program.
 #![tactic(auto)]
 
 mod guarding;

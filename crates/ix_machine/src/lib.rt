@@ -1,17 +1,10 @@
-//! The machine: a program of the plain form, run step by step.
+//! The machine: a program of the plain form, run step by step; its operations, and the look-ups of a call.
 //!
 //! What goes in: a program, an entry and the words of its inputs. What comes out: a run, or what stands in its way; and what each step tells.
 //! The contract: `Machine::new` begins a run as `specs/Starts.antt` says, and takes all memory; `Machine::step` is `step` of `ix_core`'s `Machine.antt`, with limits
-//! on cells and frames, and takes none.
-//! It stands on the inputs of `ix_machine_inputs`, the operations of `ix_machine` and the frames of `ix_machine_state`, and never looks at tokens, trees or texts.
-//!
-//! The operations of the machine, and the look-ups of a call.
-//!
-//! What goes in: an operation with the frame that runs and the heap, or a call. What comes out: what the operation does, or the method that runs, its
-//! receiver and the slot that gets its result.
-//! The contract: each is its definition of `ix_core`'s `Machine.antt` and `Tables.antt` on the slots and objects that frame and heap stand for.
-//! It stands on the values and the heap of `ix_machine_state` and on the frames of `ix_machine_state`.
-//! It never begins or ends a frame.
+//! on cells and frames, and takes none. Each operation is its definition there, on the slots and objects that frame and heap stand for, and each look-up its definition of `Tables.antt`.
+//! It stands on the inputs of `ix_machine_inputs`, and on the heap and the frames of `ix_machine_state`.
+//! It never looks at tokens, trees or texts.
 #![tactic(auto)]
 
 mod access;

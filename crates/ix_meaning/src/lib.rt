@@ -2,16 +2,10 @@
 //!
 //! What goes in: nothing; these are definitions and the types that they speak of. What comes out: what the crates above answer.
 //! The contract: `notes` of `specs/Source.antt`, the JLS's scopes, members and types, with the rules of `specs/Rules.antt`. The laws of `proofs/FewDeclarations.antt`: a source
-//! in which names can be looked up by places declares little, so that the numbers of its declarations fit.
+//! in which names can be looked up by places declares little, so that the numbers of its declarations fit; and of `proofs/SubclassesClimb.antt`: superclasses are exactly the classes that one
+//! comes to from a class by going to the parent any number of times.
 //! It stands on the trees of `ix_tree`, the types of `ix_core` and the claims of `ix_annot`.
 //! It never looks at tokens or at the text, and at no value.
-//!
-//! What superclasses are: exactly the classes that one comes to from a class by going to the parent any number of times.
-//!
-//! What goes in and what comes out: nothing; these are laws over the definitions of classes.
-//! The contract: the lemmas of `proofs/SubclassesClimb.antt`, by the relation of `specs/Subclasses.antt`.
-//! They stand on the classes of `ix_meaning`.
-//! They never look at how anything is computed.
 #![tactic(auto)]
 
 mod members;

@@ -1,17 +1,12 @@
-//! Names, types and annotations of a whole source.
+//! Names, types and annotations of a whole source: its members and the statements of their bodies (JLS 6.3, 8, 14).
 //!
 //! What goes in: the tree of a source. What comes out: a table of what each name means, or the list of all its errors, or a limit that it passes.
 //! The contract: `names`, `Accepts` and `Refuses` of `ix_meaning`'s `Resolved`; the first limit that is passed (too many classes, methods, parameters, claims or inherited classes), with its
-//! place, is `limit` or `inheritance_limit` of its `specs/Limits.antt`.
-//! It stands on the members of `ix_names`, on `ix_annot` for what an annotation counts, on `ix_symbols` for superclasses, and on the tables of `ix_symbols`.
+//! place, is `limit` or `inheritance_limit` of its `specs/Limits.antt`. Of a member `field_notes` and `method_notes` of its `Source`; of the statements of a body `telling` of its `Bodies`, with
+//! the names in scope behind them.
+//! It stands on the expressions of `ix_expression_types`, the rules of `ix_class_members`, on `ix_annot` for what an annotation counts, on the tables and superclasses of `ix_symbols`, and on
+//! `smallvec` for the scopes that are open.
 //! It never looks at tokens or at the text.
-//!
-//! What the members of a class say, and the statements of their bodies (JLS 6.3, 8, 14).
-//!
-//! What goes in: a field, or a method or constructor, and the members of all classes. What comes out: the notes of all that it says.
-//! The contract: `field_notes` and `method_notes` of `ix_meaning`'s `Source`; of the statements of a body `telling` of its `Bodies`, with the names in scope behind them.
-//! It stands on the expressions of `ix_expression_types` and the rules of `ix_class_members`.
-//! It never looks at another member's text.
 #![tactic(auto)]
 
 mod body;

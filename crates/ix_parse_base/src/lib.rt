@@ -1,12 +1,10 @@
-//! What all readers need, and the lowest of them: the cursor over the tokens, operators, annotations, types and modifiers.
+//! What all readers need, and the lowest of them: the cursor over the tokens, operators, annotations, types and modifiers, and the nodes of the tree with their heights.
 //!
-//! Contract: `reads`, that a function answers what its rule of `ix_grammar_rules` reads of the tokens that are left, unless memory fails.
-//! It stands on `ix_grammar` and `ix_grammar_rules`. It must know no expression and no statement.
-//!
-//! The nodes of the tree with their heights, each made of its parts by a function of its own, and copies of types and modifiers.
-//!
-//! Contract: each function makes the node of its name in the specs of `ix_grammar`; the one error is want of memory.
-//! It stands on `ix_grammar`, and on `ix_grammar_rules` for the error alone. It never looks at a token.
+//! What goes in: the tokens that are left, or the parts of a node. What comes out: what is read and what is left then, or the node.
+//! The contract: `reads`, that a function answers what its rule of `ix_grammar_rules` reads of the tokens that are left, unless memory fails; of nodes, that each function makes the node of its
+//! name in the specs of `ix_grammar`.
+//! It stands on `ix_grammar` and `ix_grammar_rules`.
+//! It never looks at an expression or a statement as a whole, nor at what a name means.
 #![tactic(auto)]
 
 pub mod annotations;

@@ -1,13 +1,10 @@
-//! From tokens to the tree.
+//! From tokens to the tree; and the readers of members, classes and whole sources (JLS 7, 8).
 //!
 //! What goes in: the tokens of a text. What comes out: the one tree that the grammar gives them, or the token at which reading stopped.
-//! The contract: `parse`, over the relation of `ix_grammar`; `proofs/` puts together what `ix_grammar_rules` show of it.
-//! It stands on `ix_parser` for the reading. It never looks at the text, and never at what a name means.
-//!
-//! Members, classes and whole sources (JLS 7, 8), read from tokens.
-//!
-//! Contract: `reads`, as in `ix_parse_base`, of `sources::source`: it answers what the rule of a source of a height of at most 200 reads.
-//! It stands on `ix_parse_statements`. It never looks at what a name means.
+//! The contract: `parse`, over the relation of `ix_grammar`; `proofs/` puts together what `ix_grammar_rules` shows of it. Of a reader `reads`, as in `ix_parse_base`: `sources::source` answers
+//! what the rule of a source of a height of at most 200 reads.
+//! It stands on `ix_parse_statements` for the reading of bodies, and on `ix_grammar_rules`.
+//! It never looks at the text, and never at what a name means.
 #![tactic(auto)]
 
 pub mod bodies;

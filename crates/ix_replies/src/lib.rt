@@ -1,16 +1,10 @@
-//! The replies to commands, before they are written: on a program that is judged, and on a source that has none.
+//! Answers and replies to commands: a status and a text for each of two sinks, before they are written and as they are.
 //!
-//! What goes in: the name and the bytes of a source, what is told of it. What comes out: a status and a text for one of the sinks.
-//! The contract: `verdict` and `bench_verdict` of `specs/Said.antt`, and the texts of `ix_report`.
-//! It stands on `ix_report` for texts, on `ix_replies` for replies.
+//! What goes in: the name and the bytes of a source, what is told of it, or a reply and the sinks. What comes out: a status and a text for one of the sinks; written, a status, and what each sink took.
+//! The contract: `verdict` and `bench_verdict` of `specs/Said.antt`, with the texts of `ix_report`; `specs/Delivery.antt`: the answer was written, or as much of it as could be, and the status says
+//! which.
+//! It stands on `ix_report` for texts, on `ix_outside` for sinks.
 //! It never looks at how a source is read or judged.
-//!
-//! Answers: a status and a text for each of two sinks.
-//!
-//! What goes in: a reply, and the sinks. What comes out: a status, and what each sink took.
-//! The contract: `specs/Delivery.antt`: the answer was written, or as much of it as could be, and the status says which.
-//! It stands on the sinks of `ix_outside`.
-//! It never looks at what an answer says.
 #![tactic(auto)]
 
 mod counts;

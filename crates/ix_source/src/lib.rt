@@ -1,23 +1,11 @@
-//! Lowering that keeps what a source means.
+//! What a source means when it runs, in the words of the Java Language Specification, and lowering that keeps it.
 //!
-//! What goes in: the tree, and the table of its names. What comes out: the program, or the limit that one of its methods passes, as `ix_lower` answers them.
-//! The contract: `lower_kept`; where a source without errors on names has a program, the machine ends on it as the source does, shows the same accesses and printed values and
-//! wraps alike, both ways. So where the program is safe, the source is: `safe_source`.
-//! It stands on `ix_lower`, on the meaning of the tree in `ix_source`, and on the laws of the crates that keep it.
-//! It never looks at rules and facts.
-//!
-//! What a source means when it runs: a meaning on its tree, in the words of the Java Language Specification.
-//!
-//! What goes in and what comes out: nothing; these are definitions, with rows that they decide.
-//! The contract: `source`, what a run of a method shows and how it ends, where each entry into a loop makes at most so many turns and calls nest at most so deep; and
-//! `SafeSource`, the promise: no such run asks for a cell outside an array or makes an array of negative length.
-//! It stands on the tree, on the names and types of `ix_meaning`, and on the heap, the endings and what is seen of a run in `ix_core`.
-//! It never looks at the plain form: it has no slots, temporaries, operations or tasks.
-//!
-//! Laws: the plain form of a source keeps its meaning: the machine goes along with it.
-//!
-//! What goes in and what comes out: nothing; these are definitions and laws over them.
-//! The contract, from single steps to whole methods:
+//! What goes in: the tree, and the table of its names. What comes out: the program, or the limit that one of its methods passes, as `ix_lower` answers them. All else are definitions, with rows
+//! that they decide, and laws.
+//! The contract: `source` of `specs/Source.antt`, what a run of a method shows and how it ends, where each entry into a loop makes at most so many turns and calls nest at most so deep; and
+//! `SafeSource` of `specs/Promise.antt`, the promise: no such run asks for a cell outside an array or makes an array of negative length. Of `lower_kept`: where a source without errors on names has
+//! a program, the machine ends on it as the source does, shows the same accesses and printed values and wraps alike, both ways. So where the program is safe, the source is (`safe_source`), and
+//! the reverse: what begins on the machine enters the source, and a safe source has no bad run there. The laws, from single steps to whole methods:
 //! - `Along` and `Done`, that items of the plain form do what an action does; `Runs`, the same of statements; `GoesBack`, of calls; each operation does what the source's
 //!   effect does; `start_decides`, that a run of a formed program decides by booleans. Besides the tests of what each form asks of where it stands: `soundness` of an expression,
 //!   `statement_soundness` of a statement, `written_sound` and `default_sound` of a whole body.
@@ -30,8 +18,9 @@
 //! - What the names in a source without errors on names mean, as each place needs it where it is lowered and run: `sound_source`, that each body of an accepted source is sound
 //!   where it stands, however a run sees it; and `assigns_own`, that what a sound expression assigns are variables in scope.
 //!
-//! They stand on the meaning of the tree in `ix_source`, the plain form of `ix_plain`, what `ix_formed` knows of it, and the machine of `ix_core`.
-//! They never look at how names are found, nor at how anything is computed.
+//! It stands on the tree, on the names and types of `ix_meaning`, on the heap, the endings, the machine and what is seen of a run in `ix_core`, on the plain form of `ix_plain`, what `ix_formed` knows
+//! of it, and on `ix_lower`.
+//! It never looks at rules and facts, nor at how names are found. The definitions of the meaning never look at the plain form: it has no slots, temporaries, operations or tasks.
 #![tactic(auto)]
 
 mod lowering;

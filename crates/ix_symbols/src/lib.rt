@@ -1,15 +1,9 @@
-//! What each place of a source means, and the list of its errors, both read off its notes.
+//! What each place of a source means, and its errors, read off its notes; and types and classes, as names in a source give them.
 //!
-//! What goes in: the notes of a source, in the order of its text. What comes out: a table of them by places, or the sorted list of errors.
-//! The contract: `names_in` of `specs/Resolved.antt` and `derived` and `IsListed` of `specs/Listed.antt`, all of `ix_meaning`.
-//! It stands on `ix_meaning`, and on maps of std for places.
-//! It never looks at the tree.
-//!
-//! Types and classes, as names in a source give them.
-//!
-//! What goes in: classes of the tree and types of `ix_core`. What comes out: which class a name means, which classes stand above it, and which types are one.
-//! The contract: `Classes` and `Types` of `ix_meaning`.
-//! It stands on `ix_meaning`, and on maps of std for the names of classes.
+//! What goes in: the notes of a source, in the order of its text; classes of the tree and types of `ix_core`. What comes out: a table of the notes by places, or the sorted list of errors; which
+//! class a name means, which classes stand above it, and which types are one.
+//! The contract: `names_in` of `specs/Resolved.antt`, `derived` and `IsListed` of `specs/Listed.antt`, `Classes` and `Types`, all of `ix_meaning`.
+//! It stands on `ix_meaning`, on maps of std for places, and on `indexmap` for the names of classes, in the order in which they are first seen.
 //! It never looks at a member or at a body.
 #![tactic(auto)]
 

@@ -1,12 +1,8 @@
-//! Tests of stores: what they know behind operations, copies, claims, tests, joins, roundings, field writes and calls, with values from an independent checker.
+//! Tests of stores, of numbers and of facts, with values from a Java virtual machine or from an independent checker, or worked out by hand.
 //!
-//! What goes in: rows of plain steps (`ix_fact_rows`), each with what is to be seen behind it. They stand in a crate of their own, since a crate with tests is proved a second time.
-//!
-//! Tests of numbers and facts: of arithmetic, intervals, the low table, keys and solvers; of lattices, lists of facts, what operations give, and the six tables. Their values are those of a Java
-//! virtual machine or of an independent checker, or worked out by hand.
-//!
-//! What goes in: rows of questions about numbers (`numbers`), and of plain steps (`ix_fact_rows`), each with what is to be seen behind it. They stand in a crate of their own, since a crate with
-//! tests is proved a second time.
+//! What goes in: rows of plain steps (`ix_fact_rows`) and of questions about numbers, each with what is to be seen behind it: what stores know behind operations, copies, claims, tests, joins, roundings,
+//! field writes and calls; arithmetic, intervals, the low table, keys and solvers; lattices, lists of facts, what operations give, and the six tables.
+//! They stand in a crate of their own, since a crate with tests is proved a second time.
 #![tactic(auto)]
 
 #[cfg(test)]

@@ -13,6 +13,7 @@ use Rattle.ix_replies.specs.Ends.{Texts, EndsWell, TookPart, TookWanted, TookNot
 use Rattle.ix_outside.specs.Outside.{Files, bytes_under, Rose, Took, TookPrefix}
 use Rattle.ix_outside.specs.Reading.{IsAllOrPast, most_bytes}
 use Rattle.ix_outside.proofs.PrefixesTaken.{TookPrefix-none}
+use Rattle.ix_words.specs.declared.values.Limits.{Limits}
 use Rattle.ix_words.specs.declared.values.Sums.{Sums}
 use Rattle.ix_words.specs.Commands.{Command, Check, Run, Bench, Verify, Guard}
 use Rattle.ix_commands.specs.Answers.{Answers, IsVerdict}
@@ -20,9 +21,12 @@ use Rattle.ix_read_inputs.specs.Sources.{AsksCert, NeedsCert, file_in, cert_in, 
 use Rattle.ix_replies.specs.Said.{read_failed}
 use Rattle.ix_read_inputs.specs.Opened.{WasUnread, bytes_of, cert_bytes_of, last_of}
 use Rattle.ix_tool.specs.Ends.{EndsUnread, TookUnread}
-use Rattle.ix_commands.specs.Promises.{SafeBytes, SafeOnMachine, SafeBy, Promises}
+use Rattle.ix_commands.specs.Promises.{SafeBytes, SafeOnMachine, SafeAsNamed, AcceptedBy, EntersBytes, Promises}
 use Rattle.ix_tool.specs.Inputs.{Obeys}
 use Rattle.ix_commands.specs.Judgements.{profile_of}
+use Rattle.ix_runs.specs.declared.running.RunEnd.{RunEnd}
+use Rattle.ix_runs.specs.Runs.{status_of}
+use Rattle.ix_runs.proofs.RunsEnter.{made_answers}
 use Rattle.ix_commands.proofs.Answered.{IsCertRead, read_right, verdict_answers, other_status}
 
 abbrev unread_answer : List ℕ → Answer
@@ -80,16 +84,20 @@ obeyed_answer IsSure before after asked command given cert result old new is d s
 asked_is : (asked : Option Command) (command other : Command) → Some command ≡ asked → asked ≡ Some other → command ≡ other
 asked_is asked command other is checks = let e : Some command ≡ Some other = is ∙ checks in cc
 
--- what is promised where the status is Done
+-- The answer that was given, with what is promised of it.
+record Given (other : Command) (given : List ℕ) (cert : Option (List ℕ)) (result : Status) (old new : Sinks) : Type 0 where
+  answer : Answer
+  promises : Promises other (source_bytes other given) cert answer
+  status : result ≡ answer.status
+  out : Took answer.out old.taken.out new.taken.out
+
 obeyed_promise : (IsSure : List ℕ → Type 0) (before after : ℕ) (asked : Option Command) (command other : Command) (given : List ℕ) (cert : Option (List ℕ)) (result : Status) (old new : Sinks)
-    → Some command ≡ asked → Delivers (Obeys IsSure before after command given cert) result old new → asked ≡ Some other → result ≡ Done
-    → (a : Answer) × Promises other (source_bytes other given) cert a × (a.status ≡ Done)
-obeyed_promise IsSure before after asked command other given cert result old new is d asks done =
-    let so : is_answer result ≡ true = ap is_answer done in
+    → Some command ≡ asked → Delivers (Obeys IsSure before after command given cert) result old new → asked ≡ Some other → is_answer result ≡ true → Given other given cert result old new
+obeyed_promise IsSure before after asked command other given cert result old new is d asks so =
     let w = d.whole (other_status result WriteFault so refl) (other_status result Memory so refl) in
     let e = w.0 in
     elim e.right [
-      | inl only ↦ (e.answer, subst (λ (c : Command). Promises c (source_bytes c given) cert e.answer) (asked_is asked command other is asks) only.1, sym e.status ∙ done)
+      | inl only ↦ record { answer = e.answer; promises = subst (λ (c : Command). Promises c (source_bytes c given) cert e.answer) (asked_is asked command other is asks) only.1; status = e.status; out = e.out }
       | inr u ↦ absurd (other_status result ReadFault so refl (e.status ∙ ap (λ (b : Answer). b.status) u.1))
     ]
 
@@ -98,14 +106,31 @@ pub obeyed_safe : (IsSure : List ℕ → Type 0) (before after : ℕ) (asked : O
     → Some command ≡ asked → Delivers (Obeys IsSure before after command given cert) result old new → asked ≡ Some (Check sums certificate library file) → result ≡ Done
     → SafeBytes (profile_of sums) (judged_bytes library given) × SafeOnMachine (profile_of sums) (judged_bytes library given)
 obeyed_safe IsSure before after asked command given cert result old new sums certificate library file is d checks done =
-    let p = obeyed_promise IsSure before after asked command (Check sums certificate library file) given cert result old new is d checks done in p.1 p.2
+    let p = obeyed_promise IsSure before after asked command (Check sums certificate library file) given cert result old new is d checks (ap is_answer done) in p.promises (sym p.status ∙ done)
 
 pub obeyed_verified : (IsSure : List ℕ → Type 0) (before after : ℕ) (asked : Option Command) (command : Command) (given : List ℕ) (cert : Option (List ℕ)) (result : Status) (old new : Sinks)
     (library : Bool) (file name : List ℕ)
     → Some command ≡ asked → Delivers (Obeys IsSure before after command given cert) result old new → asked ≡ Some (Verify library file name) → result ≡ Done
-    → SafeBy (judged_bytes library given) cert
+    → SafeAsNamed (judged_bytes library given) cert × AcceptedBy (judged_bytes library given) cert
 obeyed_verified IsSure before after asked command given cert result old new library file name is d verifies done =
-    let p = obeyed_promise IsSure before after asked command (Verify library file name) given cert result old new is d verifies done in p.1 p.2
+    let p = obeyed_promise IsSure before after asked command (Verify library file name) given cert result old new is d verifies (ap is_answer done) in p.promises (sym p.status ∙ done)
+
+pub obeyed_entered : (IsSure : List ℕ → Type 0) (before after : ℕ) (asked : Option Command) (command : Command) (given : List ℕ) (cert : Option (List ℕ)) (result : Status) (old new : Sinks)
+    (limits : Limits) (traced library : Bool) (file entry : List ℕ) (inputs : List (List ℕ)) (end : RunEnd)
+    → Some command ≡ asked → Delivers (Obeys IsSure before after command given cert) result old new → asked ≡ Some (Run limits traced library file entry inputs) → result ≡ status_of end
+    → EntersBytes (judged_bytes library given) entry inputs
+obeyed_entered IsSure before after asked command given cert result old new limits traced library file entry inputs end is d runs ends =
+    let p = obeyed_promise IsSure before after asked command (Run limits traced library file entry inputs) given cert result old new is d runs (ap is_answer ends ∙ made_answers end) in
+    p.promises end (sym p.status ∙ ends)
+
+pub obeyed_guarded : (IsSure : List ℕ → Type 0) (before after : ℕ) (asked : Option Command) (command : Command) (given : List ℕ) (cert : Option (List ℕ)) (result : Status) (old new : Sinks)
+    (sums : Sums) (file : List ℕ)
+    → Some command ≡ asked → Delivers (Obeys IsSure before after command given cert) result old new → asked ≡ Some (Guard sums file) → result ≡ Done
+    → (text : List ℕ) × Took text old.taken.out new.taken.out × SafeBytes (profile_of sums) text × SafeOnMachine (profile_of sums) text
+obeyed_guarded IsSure before after asked command given cert result old new sums file is d guards done =
+    let p = obeyed_promise IsSure before after asked command (Guard sums file) given cert result old new is d guards (ap is_answer done) in
+    let safe = p.promises (sym p.status ∙ done) in
+    (p.answer.out, p.out, safe.0, safe.1)
 
 -- ---- faults
 

@@ -1,17 +1,10 @@
 //! The new facts after an operation or a copy: what its own rule gives, and what follows of that with what is known, before anything is closed.
 //!
-//! What goes in: what is known beside the target, with the facts on each path at hand, and an operation. What comes out: new facts.
-//! The contract: `facts`, the new facts of the rules of `ix_facts`, no more and no fewer (`SameFacts.antt`); their order and repeats are open.
-//! It stands on `ix_transfer_rules` for what the operation gives, on `ix_transfer` for what follows.
+//! What goes in: what is known beside the target, with the facts on each path at hand, and an operation. What comes out: new facts: of its rule, and of these the differences and bounds of the
+//! target along stored ones, and by ranges beside each named int and array.
+//! The contract: `facts`, the new facts of the rules of `ix_facts`, no more and no fewer (`SameFacts.antt`), over the facts on each path and each named path once; their order and repeats are open.
+//! It stands on `ix_transfer_rules` for what the operation gives, on `ix_intervals` for facts whose constants are kept, on `ix_facts` for the facts on a path.
 //! It never looks at a table.
-//!
-//! What the new facts of an operation give together with what is known, before anything is closed.
-//!
-//! What goes in: what is known, with the facts on each path at hand, and new facts of a target. What comes out: the differences and bounds of the target
-//! along stored ones, and by ranges beside each named int and array.
-//! The contract: the rules of `ix_facts`, list for list, over the facts on each path and each named path once.
-//! It stands on `ix_facts` for the facts on a path, on `ix_intervals` for facts whose constants are kept.
-//! It never looks at the operation but for its target's type.
 #![tactic(auto, using(std::proofs::lemmas::List::append_assoc, ix_intervals::specs::KeptLaws::kept_joined, ix_intervals::specs::KeptLaws::same_int))]
 
 mod along;

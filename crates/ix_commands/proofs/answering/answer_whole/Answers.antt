@@ -6,7 +6,8 @@ use Rattle.ix_words.specs.Commands.{Command, Check, Bench, Guard}
 use Rattle.ix_words.specs.Shown.{shown}
 use Rattle.ix_replies.specs.declared.status.Status.TheVariants.{Done}
 use Rattle.ix_commands.specs.Answers.{AnswersWhole, Verifies}
-use Rattle.ix_commands.specs.Promises.{PromisesWhole, SafeProgram}
+use Rattle.ix_commands.specs.Judgements.{profile_of}
+use Rattle.ix_commands.specs.Promises.{PromisesWhole, SafeProgram, SafeText}
 use Rattle.ix_commands.proofs.Answered.{said_right, bench_given, verify_given, guard_given}
 use Rattle.ix_commands.proofs.answering.answer_whole.Goals as goal
 
@@ -64,6 +65,7 @@ returns-in-Guard g c =
     let cert : Option (List ℕ) = option_map (λ text. text.items) c.args.cert.now in
     delivers_weaker (Says c.guard_reply.result) (λ a. AnswersWhole command bytes cert program a × PromisesWhole command cert program a) _ _ _
     (λ (a : Answer) says.
-    guard_given command made bytes cert program a (ap shown c.in-Guard.is) tt
-    (said_right (λ b. (text : Option (List ℕ)) → AnswersWhole made bytes text program b) c.guard_reply.result a c.guard_reply.ensures says cert))
+    guard_given command made bytes cert program a (ap shown c.in-Guard.is)
+    (said_right (λ b. b.status ≡ Done → SafeText (profile_of c.in-Guard.sums) b.out) c.guard_reply.result a c.guard_reply.ensures.safe says)
+    (said_right (λ b. (text : Option (List ℕ)) → AnswersWhole made bytes text program b) c.guard_reply.result a c.guard_reply.ensures.answers says cert))
     c.say-in-Guard.ensures

@@ -9,12 +9,13 @@ use Rattle.ix_certify.specs.MethodErrors.{IsError}
 use Rattle.ix_guard_text.specs.Guarding.{IsGuarded}
 use Rattle.ix_certify.specs.ErrorList.{IsErrorList}
 use Rattle.ix_commands.specs.Answers.{AnswersFound, AnswersGuarded}
+use Rattle.ix_commands.specs.Promises.{SafeText}
 use Rattle.ix_commands.proofs.GuardsAnswered.{found_short}
 use Rattle.ix_commands.proofs.WholeSources.{named_bytes}
 use Rattle.ix_commands.proofs.guarding.guard_reply.Goals as goal
 
-pub returns : goal.returns
-returns c =
+pub returns-clause-answers : goal.returns-clause-answers
+returns-clause-answers c =
     let errors = c.in_ok-errors.errors.items in
     let text = c.in_ok-text.text.items in
     let name = c.args.name.now in
@@ -30,7 +31,16 @@ returns c =
         subst (λ (bytes : List ℕ). Found bytes finding) c.deref-2.ensures.value c.in_ok-finding.ensures.right,
         subst (λ (p : Profile). AnswersFound name text (AnswersGuarded p text) finding (shown reply)) c.profile_of-profile.ensures on,
       ),
-    )) c.guarded_reply.ensures
+    )) c.guarded_reply.ensures.answers
+
+pub returns-clause-safe : goal.returns-clause-safe
+returns-clause-safe c =
+    IfOk-weaker c.guarded_reply.result _ _ (λ reply safe done. subst (λ (p : Profile). SafeText p (shown reply).out) c.profile_of-profile.ensures (safe done)) c.guarded_reply.ensures.safe
+
+pub guarded_reply-requires-clause-found : goal.guarded_reply-requires-clause-found
+guarded_reply-requires-clause-found c =
+    let finding = seen c.in_ok-finding.finding in
+    subst (λ (bytes : List ℕ). Found bytes finding) c.deref-2.ensures.value c.in_ok-finding.ensures.right
 
 pub guarded-requires-clause-named : goal.guarded-requires-clause-named
 guarded-requires-clause-named c = named_bytes c.args.bytes.now c.args.program.now c.requires.found
