@@ -6,7 +6,8 @@
 #![tactic(auto)]
 
 use ix_process::{FileSource, StdSink};
-use ix_tool::{Status, run_tool, wanting};
+use ix_replies::{Status, wanting};
+use ix_tool::run_tool;
 use std::alloc::Global;
 use std::env;
 use std::io::ErrorKind;

@@ -4,24 +4,13 @@ pub mod Named
 pub mod Arguments
 pub mod Expansion
 -- Passed on from ix_core.
-pub use Rattle.ix_core.specs.Posts
-pub use Rattle.ix_core.specs.SameClaims
-pub use Rattle.ix_core.specs.declared.claim.Base
-pub use Rattle.ix_core.specs.declared.claim.Claim
-pub use Rattle.ix_core.specs.declared.claim.Name
-pub use Rattle.ix_core.specs.declared.claim.Post
 pub use Rattle.ix_core.specs.declared.claim.Type_
 -- Passed on from ix_tree.
-pub use Rattle.ix_tree.specs.declared.annot.Annot
-pub use Rattle.ix_tree.specs.declared.annot.AnnotValue
-pub use Rattle.ix_tree.specs.declared.annot.BaseTree
 pub use Rattle.ix_tree.specs.declared.annot.Ident
-pub use Rattle.ix_tree.specs.declared.annot.TypeTree
 pub use Rattle.ix_tree.specs.declared.decl.ClassDecl
 pub use Rattle.ix_tree.specs.declared.decl.LocalDecl
 pub use Rattle.ix_tree.specs.declared.decl.Member
 pub use Rattle.ix_tree.specs.declared.decl.MethodDecl
-pub use Rattle.ix_tree.specs.declared.decl.Unit
 pub use Rattle.ix_tree.specs.declared.expr.BinaryOp
 pub use Rattle.ix_tree.specs.declared.expr.Expr
 pub use Rattle.ix_tree.specs.declared.expr.ExprKind

@@ -18,7 +18,7 @@ mod words;
 
 pub use arguments::{Plan, Written};
 pub use expansion::{MOST_CLAIMS, claims, expand};
-pub use ix_core::{Post, Type_};
+pub use ix_core::Post;
 pub use naming::{InScope, Names, same_name, what_holds};
 pub use same::same_claim;
 pub use scope::{AnnotError, Claims, Found, Holds, Scope, Target};

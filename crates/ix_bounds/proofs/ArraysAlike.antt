@@ -3,11 +3,11 @@ use Rattle.std.specs.Prelude.{◌≡◌, Bool, true, ◌||◌, ℤ, negsuc, Opti
 use Rattle.std.specs.Int.{int_max}
 use Rattle.std.proofs.Common.{inl, inr, ap, sym, ◌∙◌, subst, ⊎_elim}
 use Rattle.std.proofs.lemmas.Bool.{false≢true, and_parts}
-use Rattle.ix_facts.specs.Path.{Path}
-use Rattle.ix_facts.specs.PathOff.{PathOff}
-use Rattle.ix_facts.specs.PathOff.TheVariants.{Nothing, Plus, Minus}
-use Rattle.ix_facts.specs.Fact.{Fact}
-use Rattle.ix_facts.specs.Fact.TheVariants.{Rng, LenRng, Low, Same, IsLen, Less, Sum, Search, Neg, Upper}
+use Rattle.ix_core.specs.declared.fact.Path.{Path}
+use Rattle.ix_core.specs.declared.fact.PathOff.{PathOff}
+use Rattle.ix_core.specs.declared.fact.PathOff.TheVariants.{Nothing, Plus, Minus}
+use Rattle.ix_core.specs.declared.fact.Fact.{Fact}
+use Rattle.ix_core.specs.declared.fact.Fact.TheVariants.{Rng, LenRng, Low, Same, IsLen, Less, Sum, Search, Neg, Upper}
 use Rattle.ix_facts.specs.Bounds
 use Rattle.ix_facts.specs.Bounds.{is_path, when, says_same, stored_same, best, greatest}
 use Rattle.ix_facts.specs.Exact.{if_so, each}
@@ -16,7 +16,7 @@ use Rattle.ix_facts.specs.Forget.{names}
 use Rattle.ix_facts.specs.PathOrder.{path_itself, path_same}
 use Rattle.ix_facts.proofs.FactLists.{in_left, in_right, in_either}
 use Rattle.ix_facts.specs.OnPaths.{HasNamed}
-use Rattle.ix_facts.specs.Cases.{by_test}
+use Rattle.ix_core.proofs.Cases.{by_test}
 use Rattle.ix_facts.proofs.Tests.{or_first, or_second}
 use Rattle.ix_bounds.specs.OnArrays.{alike_on}
 use Rattle.ix_bounds.proofs.BestOfParts.{joined, Counts, same_greatest, greatest_of_both}

@@ -4,7 +4,7 @@ use Rattle.std.specs.Int.{int_min, int_max}
 use Rattle.std.proofs.Common.{add-one, inl, inr, ap, sym, ◌∙◌, arith, ⊎_elim}
 use Rattle.std.proofs.Math.Seq.{drop-cons}
 use Rattle.std.proofs.lemmas.Int.{ints, clamps}
-use Rattle.ix_facts.specs.Fact.{Fact}
+use Rattle.ix_core.specs.declared.fact.Fact.{Fact}
 use Rattle.ix_facts.specs.Facts.{IsIn}
 use Rattle.ix_facts.specs.Bounds.{best, at_least, at_most, greatest}
 use Rattle.ix_facts.specs.Exact.{each}

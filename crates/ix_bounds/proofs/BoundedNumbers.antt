@@ -4,8 +4,8 @@ use Rattle.std.specs.Int.{int_min, int_max}
 use Rattle.std.proofs.Common.{arith, sym, ap, ◌∙◌, FitsSigned, w32, w64, to_z, of_z, drop, get_or}
 use Rattle.std.proofs.lemmas.Int.{ints, clamps, to_z-of_z}
 use Rattle.std.proofs.lemmas.List.{at_drop_more}
-use Rattle.ix_facts.specs.Ints.{IsInt}
-use Rattle.ix_facts.specs.Fact.{Fact}
+use Rattle.ix_num.specs.Ints.{IsInt}
+use Rattle.ix_core.specs.declared.fact.Fact.{Fact}
 use Rattle.ix_facts.specs.Small.{IsEnd, IsLimit, IsBound}
 use Rattle.ix_facts.specs.Bounds.{best, greatest, least, at_least, at_most}
 

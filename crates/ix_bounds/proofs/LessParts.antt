@@ -3,9 +3,9 @@ use Rattle.std.specs.Prelude.{◌≡◌, ℤ, Option, Some, None, List, [], ◌�
 use Rattle.std.specs.Int.{int_min}
 use Rattle.std.proofs.Common.{ap, sym, ◌∙◌, arith}
 use Rattle.std.proofs.lemmas.Int.{ints, clamps}
-use Rattle.ix_facts.specs.Path.{Path}
-use Rattle.ix_facts.specs.Fact.{Fact}
-use Rattle.ix_facts.specs.Fact.TheVariants.{Rng, LenRng, Low, Same, IsLen, Less, Sum, Search, Neg, Upper}
+use Rattle.ix_core.specs.declared.fact.Path.{Path}
+use Rattle.ix_core.specs.declared.fact.Fact.{Fact}
+use Rattle.ix_core.specs.declared.fact.Fact.TheVariants.{Rng, LenRng, Low, Same, IsLen, Less, Sum, Search, Neg, Upper}
 use Rattle.ix_facts.specs.Bounds
 use Rattle.ix_facts.specs.Bounds.{best, least, fact_less_by}
 use Rattle.ix_bounds.specs.Lengths.{length_less_by}

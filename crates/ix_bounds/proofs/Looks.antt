@@ -1,17 +1,17 @@
 -- Which path each bound looks at: a fact that does not name it gives no number, and is no answer to a question.
 use Rattle.std.specs.Prelude.{◌≡◌, Bool, true, false, ◌||◌, ◌&&◌, List, [], ◌∷◌, filter, refl}
 use Rattle.std.proofs.Common.{ap, sym, ◌∙◌}
-use Rattle.ix_facts.specs.Path.{Path}
-use Rattle.ix_facts.specs.PathOff.{PathOff}
-use Rattle.ix_facts.specs.PathOff.TheVariants.{Nothing, Plus, Minus}
-use Rattle.ix_facts.specs.Fact.{Fact}
-use Rattle.ix_facts.specs.Fact.TheVariants.{Rng, LenRng, Low, Same, IsLen, Less, Sum, Search, Neg, Upper}
+use Rattle.ix_core.specs.declared.fact.Path.{Path}
+use Rattle.ix_core.specs.declared.fact.PathOff.{PathOff}
+use Rattle.ix_core.specs.declared.fact.PathOff.TheVariants.{Nothing, Plus, Minus}
+use Rattle.ix_core.specs.declared.fact.Fact.{Fact}
+use Rattle.ix_core.specs.declared.fact.Fact.TheVariants.{Rng, LenRng, Low, Same, IsLen, Less, Sum, Search, Neg, Upper}
 use Rattle.ix_facts.specs.Bounds
 use Rattle.ix_facts.specs.Bounds.{is_path, is_offset, says_same, stored_same, length_low_by, length_high_by, range_low_by, range_high_by, fact_less_by}
 use Rattle.ix_facts.specs.Assume.{has, is_length, is_search, is_negative}
 use Rattle.ix_facts.specs.Forget.{names}
 use Rattle.ix_facts.specs.OnPaths.{LooksOnly, HasNamed}
-use Rattle.ix_facts.specs.Cases.{by_test}
+use Rattle.ix_core.proofs.Cases.{by_test}
 use Rattle.ix_bounds.specs.Lengths.{length_less_by}
 use Rattle.ix_facts.proofs.Tests.{off, not_first, not_second, no_number}
 

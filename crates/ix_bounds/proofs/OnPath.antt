@@ -2,10 +2,10 @@
 use Rattle.std.specs.Prelude.{◌≡◌, pos, List}
 use Rattle.std.specs.Int.{int_min, int_max}
 use Rattle.std.proofs.Common.{ap}
-use Rattle.ix_facts.specs.Ints.{least_int, greatest_int}
-use Rattle.ix_facts.specs.Path.{Path}
-use Rattle.ix_facts.specs.PathOff.{PathOff}
-use Rattle.ix_facts.specs.Fact.{Fact}
+use Rattle.ix_num.specs.Ints.{least_int, greatest_int}
+use Rattle.ix_core.specs.declared.fact.Path.{Path}
+use Rattle.ix_core.specs.declared.fact.PathOff.{PathOff}
+use Rattle.ix_core.specs.declared.fact.Fact.{Fact}
 use Rattle.ix_facts.specs.Bounds
 use Rattle.ix_facts.specs.Bounds.{at_least, at_most, greatest, least, length_low_by, length_high_by, range_low_by, range_high_by}
 use Rattle.ix_facts.specs.OnPaths.{HasNamed, best_on}

@@ -3,14 +3,14 @@ use Rattle.std.specs.Prelude.{◌≡◌, Bool, false, ℤ, pos, Option, None, Li
 use Rattle.std.specs.Int.{int_min, int_max}
 use Rattle.std.proofs.Common.{ap, sym, ◌∙◌}
 use Rattle.std.proofs.lemmas.Bool.{false≢true}
-use Rattle.ix_facts.specs.Ints.{least_int, greatest_int}
-use Rattle.ix_facts.specs.Path.{Path}
-use Rattle.ix_facts.specs.Fact.{Fact}
-use Rattle.ix_facts.specs.Fact.TheVariants.{Rng, LenRng, Low, Same, IsLen, Less, Sum, Search, Neg, Upper}
+use Rattle.ix_num.specs.Ints.{least_int, greatest_int}
+use Rattle.ix_core.specs.declared.fact.Path.{Path}
+use Rattle.ix_core.specs.declared.fact.Fact.{Fact}
+use Rattle.ix_core.specs.declared.fact.Fact.TheVariants.{Rng, LenRng, Low, Same, IsLen, Less, Sum, Search, Neg, Upper}
 use Rattle.ix_facts.specs.Bounds
 use Rattle.ix_facts.specs.Bounds.{at_least, at_most, greatest, least, best, best_of, length_low_by, length_high_by, range_low_by, range_high_by, fact_less_by}
 use Rattle.ix_facts.specs.OnPaths.{HasNamed, best_on}
-use Rattle.ix_facts.specs.Cases.{by_test}
+use Rattle.ix_core.proofs.Cases.{by_test}
 use Rattle.ix_bounds.specs.Ends.{is_end, ends_in}
 use Rattle.ix_bounds.specs.Links.{is_link, links_in}
 use Rattle.ix_bounds.specs.Lengths.{is_len, lengths_in, length_less_by}

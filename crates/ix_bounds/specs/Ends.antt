@@ -1,7 +1,7 @@
 -- Ranges, classes and lengths: the facts that alone give the ends of an int's or a length's range, and say which length an int is.
 use Rattle.std.specs.Prelude.{Bool, true, false, List, filter}
-use Rattle.ix_facts.specs.Fact.{Fact}
-use Rattle.ix_facts.specs.Fact.TheVariants.{Rng, LenRng, Low, IsLen}
+use Rattle.ix_core.specs.declared.fact.Fact.{Fact}
+use Rattle.ix_core.specs.declared.fact.Fact.TheVariants.{Rng, LenRng, Low, IsLen}
 
 -- The fact is a range, the class of an int, or says that an int is a length.
 abbrev pub is_end : Fact → Bool

@@ -1,14 +1,14 @@
 -- Whether facts have a length or an answer of a search does not hang on the orders in which they are read.
 use Rattle.std.specs.Prelude.{◌≡◌, ◌&&◌, ◌||◌, List, [], ◌∷◌, refl}
 use Rattle.std.proofs.Common.{ap}
-use Rattle.ix_facts.specs.Path.{Path}
-use Rattle.ix_facts.specs.PathOff.TheVariants.{Nothing, Plus, Minus}
-use Rattle.ix_facts.specs.Fact.{Fact}
-use Rattle.ix_facts.specs.Fact.TheVariants.{Rng, LenRng, Low, Same, IsLen, Less, Sum, Search, Neg, Upper}
+use Rattle.ix_core.specs.declared.fact.Path.{Path}
+use Rattle.ix_core.specs.declared.fact.PathOff.TheVariants.{Nothing, Plus, Minus}
+use Rattle.ix_core.specs.declared.fact.Fact.{Fact}
+use Rattle.ix_core.specs.declared.fact.Fact.TheVariants.{Rng, LenRng, Low, Same, IsLen, Less, Sum, Search, Neg, Upper}
 use Rattle.ix_facts.specs.Bounds.{is_path}
 use Rattle.ix_facts.specs.Facts.{is_default, in_orders}
 use Rattle.ix_facts.specs.Assume.{has, is_length, is_search, is_negative}
-use Rattle.ix_facts.specs.Cases.{by_test}
+use Rattle.ix_core.proofs.Cases.{by_test}
 
 pub search_in_orders : (p a : Path) (facts : List Fact) → has (is_search p a) (in_orders facts) ≡ has (is_search p a) facts
 search_in_orders p a [] = refl

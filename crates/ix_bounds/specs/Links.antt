@@ -1,7 +1,7 @@
 -- Differences and lengths: the facts that alone tell how far two ints are apart.
 use Rattle.std.specs.Prelude.{Bool, true, false, List, filter}
-use Rattle.ix_facts.specs.Fact.{Fact}
-use Rattle.ix_facts.specs.Fact.TheVariants.{IsLen, Less}
+use Rattle.ix_core.specs.declared.fact.Fact.{Fact}
+use Rattle.ix_core.specs.declared.fact.Fact.TheVariants.{IsLen, Less}
 
 -- The fact says that an int is less than another, or that it is a length.
 abbrev pub is_link : Fact → Bool

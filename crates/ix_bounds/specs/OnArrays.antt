@@ -1,8 +1,8 @@
 -- The facts on the arrays of which facts say that they have an array's length.
 use Rattle.std.specs.Prelude.{List, []}
-use Rattle.ix_facts.specs.Path.{Path}
-use Rattle.ix_facts.specs.Fact.{Fact}
-use Rattle.ix_facts.specs.Fact.TheVariants.{Same}
+use Rattle.ix_core.specs.declared.fact.Path.{Path}
+use Rattle.ix_core.specs.declared.fact.Fact.{Fact}
+use Rattle.ix_core.specs.declared.fact.Fact.TheVariants.{Same}
 use Rattle.ix_facts.specs.Bounds.{is_path}
 use Rattle.ix_facts.specs.Exact.{if_so}
 

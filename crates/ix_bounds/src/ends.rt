@@ -6,7 +6,8 @@ ghost use Rattle.ix_facts.specs.Small.{IsEnd, HasSmallNumbers};
 
 use crate::groups::Groups;
 use crate::numbers::{at_least, at_most};
-use ix_facts::{Fact, Path, is_same_path};
+use ix_core::{Fact, Path};
+use ix_facts::is_same_path;
 
 /// The least int.
 const LEAST: i64 = -2147483648;

@@ -1,8 +1,8 @@
 //! Facts by the paths that they name.
 
 ghost use Rattle.std.specs.Prelude.{◌≡◌, All, IfSome, List, filter};
-ghost use Rattle.ix_facts.specs.Path.{Path};
-ghost use Rattle.ix_facts.specs.Fact.{Fact};
+ghost use Rattle.ix_core.specs.declared.fact.Path.{Path};
+ghost use Rattle.ix_core.specs.declared.fact.Fact.{Fact};
 ghost use Rattle.ix_facts.specs.Bounds.{is_path};
 ghost use Rattle.ix_facts.specs.Facts.{IsIn};
 ghost use Rattle.ix_facts.specs.Forget.{names};
@@ -12,7 +12,7 @@ ghost use Rattle.ix_facts.specs.Bounds as bounds;
 ghost use Rattle.ix_bounds.specs.Links.{links_in};
 ghost use Rattle.ix_bounds.specs.Lengths.{lengths_in};
 
-use ix_facts::{Fact, Path};
+use ix_core::{Fact, Path};
 
 /// Facts in all their orders, with those on each path at hand. No call takes memory.
 pub trait Groups {

@@ -19,7 +19,6 @@ mod upper;
 
 pub use ends::{length_high, length_low, range_high, range_low};
 pub use groups::Groups;
-pub use ix_facts::{Indexed, Know, Path, PathClaim, PathOff};
 pub use limits::{lower_bound, upper_limit};
 pub use numbers::{past, short_of, within};
 pub use proved::is_proved;

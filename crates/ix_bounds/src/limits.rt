@@ -1,14 +1,15 @@
 //! What an int is at least and at most.
 
 ghost use Rattle.std.specs.Prelude.{◌≡◌, IfSome};
-ghost use Rattle.ix_facts.specs.Fact.TheVariants.{Upper};
+ghost use Rattle.ix_core.specs.declared.fact.Fact.TheVariants.{Upper};
 ghost use Rattle.ix_facts.specs.Bounds as spec;
 ghost use Rattle.ix_facts.specs.Small.{IsLimit};
 
 use crate::ends::{length_high, length_low, range_high, range_low};
 use crate::groups::Groups;
 use crate::numbers::{at_least, at_most, past, short_of, within};
-use ix_facts::{Fact, Path, PathOff, is_same_path};
+use ix_core::{Fact, Path, PathOff};
+use ix_facts::is_same_path;
 
 /// What a smaller int or an array's length gives of the int from below.
 fn lower_by<G: Groups>(facts: &G, p: &Path, fact: &Fact) -> Option<i64>

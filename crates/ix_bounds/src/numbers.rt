@@ -2,7 +2,7 @@
 
 ghost use Rattle.std.specs.Prelude.{◌≡◌, IfSome, pos, ◌+ℤ◌, ◌-ℤ◌};
 ghost use Rattle.std.specs.Option.{option_map};
-ghost use Rattle.ix_facts.specs.Ints.{IsInt};
+ghost use Rattle.ix_num.specs.Ints.{IsInt};
 ghost use Rattle.ix_facts.specs.Bounds as spec;
 ghost use Rattle.ix_facts.specs.Small.{IsEnd, IsLimit, IsBound};
 

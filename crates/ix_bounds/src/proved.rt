@@ -7,7 +7,8 @@ ghost use Rattle.ix_facts.specs.AfterOperation as after;
 ghost use Rattle.ix_facts.specs.Assume as claims;
 ghost use Rattle.ix_facts.specs.Assume.{has};
 
-use ix_facts::{Know, Path, PathClaim, PathOff};
+use ix_core::{Path, PathClaim, PathOff};
+use ix_facts::Know;
 
 fn reaches(number: Option<i64>, n: i64) -> bool
     ensures { result ≡ after.reaches [] number n }

@@ -5,7 +5,8 @@ ghost use Rattle.ix_facts.specs.Assume.{has, is_length, is_search, is_negative};
 ghost use Rattle.ix_facts.specs.Bounds as spec;
 
 use crate::groups::Groups;
-use ix_facts::{Fact, Path, is_same_path};
+use ix_core::{Fact, Path};
+use ix_facts::is_same_path;
 
 fn says_same(a: &Path, b: &Path, fact: &Fact) -> bool
     ensures { result ≡ spec.says_same a.now b.now fact.now }

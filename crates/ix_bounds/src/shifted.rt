@@ -2,7 +2,7 @@
 
 ghost use Rattle.std.specs.Prelude.{◌≡◌, IfSome};
 ghost use Rattle.std.specs.Int.{int_max};
-ghost use Rattle.ix_facts.specs.Ints.{IsInt};
+ghost use Rattle.ix_num.specs.Ints.{IsInt};
 ghost use Rattle.ix_facts.specs.Bounds as spec;
 ghost use Rattle.ix_facts.specs.Bounds.{is_path, is_offset, best, when};
 ghost use Rattle.ix_facts.specs.Exact.{each};
@@ -13,7 +13,8 @@ use crate::groups::Groups;
 use crate::numbers::through;
 use crate::said::are_same;
 use crate::stored::{stored_less, stored_upper};
-use ix_facts::{Fact, Path, PathOff, greater, is_same_offset, is_same_path};
+use ix_core::{Fact, Path, PathOff};
+use ix_facts::{greater, is_same_offset, is_same_path};
 
 /// A bound at one offset as one at another that is smaller.
 fn offset_moved<G: Groups>(facts: &G, c: i64, from: &PathOff, to: &PathOff) -> Option<i64>

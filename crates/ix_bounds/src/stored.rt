@@ -2,8 +2,8 @@
 
 ghost use Rattle.std.specs.Prelude.{◌≡◌, IfSome, pos, ◌-ℤ◌};
 ghost use Rattle.std.specs.Option.{option_map};
-ghost use Rattle.ix_facts.specs.Ints.{IsInt};
-ghost use Rattle.ix_facts.specs.PathOff.TheVariants.{Nothing};
+ghost use Rattle.ix_num.specs.Ints.{IsInt};
+ghost use Rattle.ix_core.specs.declared.fact.PathOff.TheVariants.{Nothing};
 ghost use Rattle.ix_facts.specs.Bounds as spec;
 ghost use Rattle.ix_facts.specs.Small.{IsEnd};
 ghost use Rattle.ix_bounds.specs.Lengths.{length_less_by};
@@ -11,7 +11,8 @@ ghost use Rattle.ix_bounds.specs.Lengths.{length_less_by};
 use crate::groups::Groups;
 use crate::numbers::negated;
 use crate::said::are_same;
-use ix_facts::{Fact, Path, PathOff, greater, is_same_offset, is_same_path, lesser};
+use ix_core::{Fact, Path, PathOff};
+use ix_facts::{greater, is_same_offset, is_same_path, lesser};
 
 fn stored_upper_by<G: Groups>(
     facts: &G,

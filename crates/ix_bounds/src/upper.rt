@@ -2,8 +2,8 @@
 
 ghost use Rattle.std.specs.Prelude.{◌≡◌, IfSome, ◌+ℤ◌, ◌-ℤ◌};
 ghost use Rattle.std.specs.Option.{option_map};
-ghost use Rattle.ix_facts.specs.PathOff.TheVariants.{Nothing};
-ghost use Rattle.ix_facts.specs.Fact.TheVariants.{Upper};
+ghost use Rattle.ix_core.specs.declared.fact.PathOff.TheVariants.{Nothing};
+ghost use Rattle.ix_core.specs.declared.fact.Fact.TheVariants.{Upper};
 ghost use Rattle.ix_facts.specs.Bounds as spec;
 ghost use Rattle.ix_facts.specs.Small.{IsLimit, IsBound};
 
@@ -14,7 +14,8 @@ use crate::numbers::{apart, at_most};
 use crate::said::are_same;
 use crate::shifted::shifted_upper;
 use crate::stored::{stored_less, stored_upper};
-use ix_facts::{Fact, Path, PathOff, greater, is_same_path};
+use ix_core::{Fact, Path, PathOff};
+use ix_facts::{greater, is_same_path};
 
 /// A stored bound of r and b at an offset, as one of the int and the array without.
 fn without_offset<G: Groups>(

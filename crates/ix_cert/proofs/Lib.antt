@@ -15,5 +15,3 @@ pub mod OneMeaning
 pub mod OneText
 pub mod SmallPaths
 pub mod FormedLoops
--- Passed on from ix_store.
-pub use Rattle.ix_store.proofs.OwnFacts

@@ -2,7 +2,7 @@
 use Rattle.std.specs.Prelude.{◌≡◌, ◌<◌, ◌^◌, ℤ, pos, negsuc}
 use Rattle.std.proofs.Common.{arith, ap, ◌∙◌, FitsSigned, w32, w64, to_z, of_z}
 use Rattle.std.proofs.lemmas.Int.{ints, to_z-of_z}
-use Rattle.ix_core.specs.Ints.{IsInt}
+use Rattle.ix_num.specs.Ints.{IsInt}
 use lib.Signed.{mag}
 
 pub int_small : (n : ℤ) → IsInt n → mag n < 2 ^ 63

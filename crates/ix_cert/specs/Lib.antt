@@ -11,4 +11,3 @@ pub mod SameLabels
 -- Passed on from ix_store.
 pub use Rattle.ix_store.specs.declared.store.Store
 pub use Rattle.ix_store.specs.StoredFacts
-pub use Rattle.ix_store.specs.WholeStores

@@ -8,8 +8,9 @@ ghost use Rattle.ix_core.specs.FirstLine.{profile_text};
 ghost use Rattle.ix_cert.specs.Adding.{Adds, AddsLabel, AddsStore, AreLabels, AreLabelsText, AreMethodsText, IsMethodText};
 
 use crate::lines::add_lines;
-use ix_core::{List, Method, Profile, Program};
+use ix_core::{Method, Profile, Program};
 use ix_store::Store;
+use ix_text::List;
 use std::alloc::{AllocError, Global};
 
 fn add_unreachable(text: &mut String) -> Result<(), AllocError>

@@ -13,8 +13,9 @@ use crate::cut::behind;
 use crate::facts::read_facts;
 use crate::loops::loops_of;
 use crate::stop::Stop;
-use ix_core::{List, Method, Profile, Program};
+use ix_core::{Method, Profile, Program};
 use ix_store::Store;
+use ix_text::List;
 use std::alloc::{AllocError, Global};
 
 #[tactic(auto, using(std::proofs::lemmas::List::append_assoc))]

@@ -3,7 +3,7 @@
 ghost use Rattle.std.specs.Prelude.{◌≡◌, ℕ, ℤ, ◌<◌, ◌^◌, List, ◌∷◌, ◌++◌, IsSomeAnd, decimal};
 ghost use Rattle.std.specs.Fmt.{signed_decimal};
 ghost use Rattle.std.specs.Str.{IsAscii};
-ghost use Rattle.ix_core.specs.Ints.{IsInt};
+ghost use Rattle.ix_num.specs.Ints.{IsInt};
 ghost use Rattle.ix_core.specs.declared.fact.Path.{Path};
 ghost use Rattle.ix_core.specs.declared.fact.PathOff.{PathOff};
 ghost use Rattle.ix_core.specs.declared.fact.Fact.{Fact};

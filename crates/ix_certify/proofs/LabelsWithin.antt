@@ -3,8 +3,8 @@ use Rattle.std.specs.Prelude.{◌≡◌, ℕ, ◌<◌, ◌==◌, nat_lt, Bool, t
 use Rattle.std.proofs.Common.{arith, sym, inl, inr, ⊎_elim, ◌∙◌}
 use Rattle.std.proofs.lemmas.Bool.{and_parts, false≢true, not-true}
 use Rattle.std.proofs.lemmas.Bool.Decides.{nat_tests}
-use Rattle.ix_core.specs.Rel.{Rel}
-use Rattle.ix_core.specs.Rel.TheVariants.{Lt, Le, Gt, Ge, Eq, Ne}
+use Rattle.ix_num.specs.declared.rel.Rel.{Rel}
+use Rattle.ix_num.specs.declared.rel.Rel.TheVariants.{Lt, Le, Gt, Ge, Eq, Ne}
 use Rattle.ix_core.specs.declared.claim.Base.TheVariants as base
 use Rattle.ix_core.specs.declared.claim.Type_.{Type_}
 use Rattle.ix_core.specs.declared.claim.Type_.TheVariants as type
@@ -98,7 +98,7 @@ module _ (program : Program) (locals : List (List Type_)) (formed : is_formed pr
   operated_cut : (kind : OpKind) → OperationWithin Inside kind → TargetApart kind → (s t : Stored) → Gives (operated profile kind) s t → Gives (operated profile kind) (cut inside s) (cut inside t)
   operated_cut kind i a s t gives = cut_gives inside (operated profile kind) (λ facts within. after_within Inside profile kind i a facts within) s t gives
 
-  copy_target : (variable : Option Type_) (t s : ℕ) (ty : Type_) (parts : List Rattle.ix_core.specs.Span.Span) → copy_fits program own types_of variable t s ty parts ≡ true → Inside (Slot t)
+  copy_target : (variable : Option Type_) (t s : ℕ) (ty : Type_) (parts : List Rattle.ix_text.specs.declared.span.Span.Span) → copy_fits program own types_of variable t s ty parts ≡ true → Inside (Slot t)
   copy_target (Some variable) t s ty parts h =
       let a = and_parts (length parts == 2) _ h in
       let b = and_parts _ (is_slot program own t && _) a.1 in

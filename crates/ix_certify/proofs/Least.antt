@@ -9,11 +9,11 @@ use Rattle.ix_core.specs.Formed.{Formed}
 use Rattle.ix_core.specs.Tables.{method_at, body_of}
 use Rattle.ix_facts.specs.Stores.{Stored}
 use Rattle.ix_flow.specs.Flow.{IsLeastFlow}
-use Rattle.ix_check.specs.MethodRules.{method_rules}
-use Rattle.ix_cert.specs.Store.{Store}
-use Rattle.ix_cert.specs.StoredFacts.{stored}
+use Rattle.ix_sign.specs.MethodRules.{method_rules}
+use Rattle.ix_store.specs.declared.store.Store.{Store}
+use Rattle.ix_store.specs.StoredFacts.{stored}
 use Rattle.ix_cert.specs.Labellings.{loops_of}
-use Rattle.ix_check.specs.LoopLabels.{AreLoopLabels}
+use Rattle.ix_labels.specs.LoopLabels.{AreLoopLabels}
 use Rattle.ix_check.specs.MethodErrors.{IsError}
 use Rattle.ix_verify.specs.Flawless.{IsLeastFlawless, AreLeastFlawless}
 use Rattle.ix_verify.proofs.Accepted.{least_accepted}

@@ -11,10 +11,10 @@ use Rattle.ix_core.specs.Tables.{method_at, body_of}
 use Rattle.ix_facts.specs.Stores.{Stored, Reached}
 use Rattle.ix_fact_table.specs.Apart.{compares_two}
 use Rattle.ix_flow.specs.Flow.{IsLeastFlow}
-use Rattle.ix_cert.specs.Store.{Store}
-use Rattle.ix_cert.specs.StoredFacts.{stored}
-use Rattle.ix_cert.specs.WholeStores.{AreAStore}
-use Rattle.ix_certify.specs.MethodRules.{method_rules}
+use Rattle.ix_store.specs.declared.store.Store.{Store}
+use Rattle.ix_store.specs.StoredFacts.{stored}
+use Rattle.ix_store.specs.WholeStores.{AreAStore}
+use Rattle.ix_sign.specs.MethodRules.{method_rules}
 use Rattle.ix_certify.specs.Within.{is_inside, StoreWithin}
 use Rattle.ix_labels.specs.LoopLabels.{AreLoopLabels}
 use Rattle.ix_cert.specs.Adding.{AreLabels}

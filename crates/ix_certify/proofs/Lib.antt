@@ -26,4 +26,3 @@ pub use Rattle.ix_check.proofs.Lists
 pub use Rattle.ix_check.proofs.Ready
 -- Passed on from ix_cert.
 pub use Rattle.ix_cert.proofs.OneMeaning
-pub use Rattle.ix_cert.proofs.OneText

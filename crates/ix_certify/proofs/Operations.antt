@@ -1,8 +1,8 @@
 -- What the rules of operations give of facts that are within: paths that the facts name, the target and the operands.
 use Rattle.std.specs.Prelude.{◌≡◌, false, ℤ, pos, negsuc, ◌+ℤ◌, ◌-ℤ◌, List, [], ◌∷◌, ◌++◌}
-use Rattle.ix_core.specs.Arith.{Arith}
-use Rattle.ix_core.specs.Arith.TheVariants.{Add, Sub, Mul, Div, Rem, And, Or, Xor, Shl, Shr, Ushr}
-use Rattle.ix_core.specs.Interval.{Interval}
+use Rattle.ix_num.specs.declared.arith.Arith.{Arith}
+use Rattle.ix_num.specs.declared.arith.Arith.TheVariants.{Add, Sub, Mul, Div, Rem, And, Or, Xor, Shl, Shr, Ushr}
+use Rattle.ix_num.specs.declared.interval.Interval.{Interval}
 use Rattle.ix_core.specs.declared.claim.Claim.{Claim}
 use Rattle.ix_core.specs.declared.claim.Claim.TheVariants as claim
 use Rattle.ix_core.specs.declared.claim.Type_.{Type_}

@@ -1,6 +1,6 @@
 -- Which facts may stand in a label of a method of two slots in a program of one field.
 use Rattle.std.specs.Prelude.{◌≡◌, Bool, true, false, pos, negsuc, refl}
-use Rattle.ix_core.specs.Ints.{least_int, greatest_int}
+use Rattle.ix_num.specs.Ints.{least_int, greatest_int}
 use Rattle.ix_core.specs.declared.fact.Fact.{Fact}
 use Rattle.ix_core.specs.declared.fact.Fact.TheVariants.{Rng, Same, Less, Upper}
 use Rattle.ix_core.specs.declared.fact.Path.TheVariants.{Slot, FieldOf}

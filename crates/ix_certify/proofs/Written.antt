@@ -18,7 +18,7 @@ use Rattle.ix_facts.specs.Forget.{names, offset_names}
 use Rattle.ix_facts.specs.Stores.{Stored, Unreachable, Reached}
 use Rattle.ix_fact_table.specs.Apart.{compares_two, is_proper}
 use Rattle.ix_fact_table.specs.Entries.{has_ends}
-use Rattle.ix_cert.specs.WholeStores.{AreAStore}
+use Rattle.ix_store.specs.WholeStores.{AreAStore}
 use Rattle.ix_certify.specs.Within.{is_inside, is_out, is_within, are_within, StoreWithin}
 use Rattle.ix_cert.specs.Labellings.{is_outside, loops_of}
 use Rattle.ix_cert.specs.Adding.{MayBeLabel, MayBeLabels, MayLabel}

@@ -5,7 +5,7 @@ use Rattle.ix_core.specs.declared.program.Program.{Program}
 use Rattle.ix_core.specs.Tables.{method_at, body_of}
 use Rattle.ix_facts.specs.Stores.{Stored}
 use Rattle.ix_flow.specs.Flow.{IsLeastFlow}
-use Rattle.ix_check.specs.MethodRules.{method_rules}
+use Rattle.ix_sign.specs.MethodRules.{method_rules}
 use Rattle.ix_cert.specs.Labellings.{IsLabelling, loops_of}
 
 -- a store for each loop of the method of this number, which say what the least labels of a flow by the rules say

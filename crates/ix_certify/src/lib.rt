@@ -13,7 +13,6 @@ mod laws;
 mod within;
 mod writing;
 
-pub use ix_cert::print;
 pub use ix_check::check_program;
 pub use ix_verify::{CertError, verify};
 pub use label_laws::least_labels_may_be_written;

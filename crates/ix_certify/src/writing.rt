@@ -6,8 +6,8 @@ ghost use Rattle.ix_core.specs.Formed.{Formed};
 ghost use Rattle.ix_core.specs.Ready.{CanCheck};
 ghost use Rattle.ix_check.specs.MethodErrors.{IsError};
 ghost use Rattle.ix_core.specs.Tables.{method_at};
-ghost use Rattle.ix_check.specs.LoopLabels.{AreLoopLabels};
-ghost use Rattle.ix_cert.specs.Store.{Store as Label};
+ghost use Rattle.ix_labels.specs.LoopLabels.{AreLoopLabels};
+ghost use Rattle.ix_store.specs.declared.store.Store.{Store as Label};
 ghost use Rattle.ix_verify.specs.declared.answer.CertError.{CertError};
 ghost use Rattle.ix_verify.specs.declared.answer.CertError.TheVariants.{Memory};
 ghost use Rattle.ix_verify.specs.Verdicts.{IsRefused};
@@ -16,8 +16,10 @@ ghost use Rattle.ix_certify.specs.Certificates.{IsLeastCertificate};
 use crate::label_laws::least_labels_may_be_written;
 use crate::laws::can_verify;
 use ix_cert::print;
-use ix_check::{Store, check_program, method_labels};
-use ix_core::{List, Profile, Program};
+use ix_check::{check_program, method_labels};
+use ix_core::{Profile, Program};
+use ix_store::Store;
+use ix_text::List;
 use std::alloc::{AllocError, Global};
 
 /// The least labels of a method.

@@ -16,8 +16,8 @@ use Rattle.ix_errors.specs.declared.ranked.Ranked.{Ranked}
 use Rattle.ix_errors.specs.Exactly.{AddsExactly}
 use Rattle.ix_errors.proofs.Refused.{exactly_none, exactly_same, adds_both}
 use Rattle.ix_labels.specs.Runs.{node_in_turn}
-use Rattle.ix_labels.specs.Store.{Store}
-use Rattle.ix_labels.specs.StoredFacts.{stored}
+use Rattle.ix_store.specs.declared.store.Store.{Store}
+use Rattle.ix_store.specs.StoredFacts.{stored}
 use Rattle.ix_labels.proofs.Filling.{get_front, get_last, ordered, ordered_there}
 use Rattle.ix_labels.proofs.Turns.{node_turn, node_within, turn_back, turn_of, turn_within}
 use Rattle.ix_check.specs.NodeErrors.{AtNode}

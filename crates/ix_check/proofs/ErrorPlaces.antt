@@ -9,7 +9,7 @@ use Rattle.ix_core.specs.declared.program.Method.{Method}
 use Rattle.ix_core.specs.declared.program.Program.{Program}
 use Rattle.ix_core.specs.Tables.{method_at, no_method, body_of}
 use Rattle.ix_flow.specs.Flow.{Rules, Avoids, IsDerived}
-use Rattle.ix_labels.specs.MethodRules.{method_rules}
+use Rattle.ix_sign.specs.MethodRules.{method_rules}
 use Rattle.ix_errors.specs.declared.ranked.Ranked.{Ranked}
 use Rattle.ix_check.specs.MethodErrors.{Derives, IsErrorOf}
 use Rattle.ix_core.specs.CodePlaces.{MethodPlaces, IsIn, PlacesWithin}

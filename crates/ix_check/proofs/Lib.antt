@@ -18,8 +18,6 @@ mod SameErrors
 mod JudgedAlone
 mod TwoParts
 -- Passed on from ix_errors.
-pub use Rattle.ix_errors.proofs.Refused
-pub use Rattle.ix_errors.proofs.MethodLaws
 pub use Rattle.ix_errors.proofs.Lists
 -- Passed on from ix_soundness.
 pub use Rattle.ix_soundness.proofs.Ready

@@ -11,10 +11,10 @@ use Rattle.ix_graph.specs.Built.{kind_of, kinds_of}
 use Rattle.ix_graph.specs.Graph.{Kind, Starts, Does, Compares, Tells, Joins, Heads, Returns, Ends, Part, NodePart, EdgePart, AreNumbered}
 use Rattle.ix_graph.specs.GraphSolutions.{AllPoints, label_at}
 use Rattle.ix_graph.specs.Linked.{kinds_in}
-use Rattle.ix_labels.specs.MethodRules.{method_rules}
-use Rattle.ix_labels.specs.RuleErrors.{OpText, TestEscapes}
+use Rattle.ix_sign.specs.MethodRules.{method_rules}
+use Rattle.ix_sign.specs.RuleErrors.{OpText, TestEscapes}
 use Rattle.ix_errors.specs.declared.ranked.Ranked.{Ranked}
-use Rattle.ix_labels.specs.Store.{Store}
+use Rattle.ix_store.specs.declared.store.Store.{Store}
 use Rattle.ix_soundness.specs.Errors.{NoErrors}
 use Rattle.ix_check.specs.NodeErrors.{LabelGives, TextGives}
 use Rattle.ix_check.specs.MethodErrors.{Derives}

@@ -14,8 +14,8 @@ use Rattle.ix_core.specs.declared.program.Method.{Method}
 use Rattle.ix_core.specs.declared.program.Program.{Program}
 use Rattle.ix_facts.specs.Stores.{Stored}
 use Rattle.ix_flow.specs.Flow.{Point, Doing, Returning, Ending}
-use Rattle.ix_labels.specs.RuleErrors.{AssignClaim, KindErrors, PointErrors}
-use Rattle.ix_labels.specs.SignErrors.{Unproved, plain, part, value_place, ArgumentClaim, PostClaim}
+use Rattle.ix_sign.specs.RuleErrors.{AssignClaim, KindErrors, PointErrors}
+use Rattle.ix_signatures.specs.SignErrors.{Unproved, plain, part, value_place, ArgumentClaim, PostClaim}
 use Rattle.ix_core.specs.CodePlaces.{ArgPlaces, CallPlaces, OpPlaces, KindPlaces}
 use Rattle.ix_check.proofs.FlowPlaces.{PointPlaces}
 

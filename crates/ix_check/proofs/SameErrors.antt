@@ -24,11 +24,11 @@ use Rattle.ix_facts.specs.Round.{AreLandmarks}
 use Rattle.ix_facts.specs.Stores.{Stored, Then}
 use Rattle.ix_flow.specs.Flow.{Point, Doing, Returning, Ending, Avoids, IsDerived}
 use Rattle.ix_rules_hold.specs.MachineSteps.{own_slot}
-use Rattle.ix_errors.specs.Names.{call_path}
-use Rattle.ix_errors.specs.Signs.{Adds, Forgets, CallGives, SuperGives, received, claims_facts, posts_facts, zero_fields, own_fields, fields_facts, inherited_fields, told_by, told_by_call, told_facts}
-use Rattle.ix_labels.specs.SignErrors.{ArgumentClaim, ConstructorClaim, HasEffect}
-use Rattle.ix_labels.specs.MethodRules.{method_rules, KindGives, AfterGives, RoundedGives}
-use Rattle.ix_labels.specs.RuleErrors.{KindErrors, PointErrors, OpText, Somewhere, SomewhereAsked, OverridesBy, TestEscapes, TextErrors}
+use Rattle.ix_signatures.specs.Names.{call_path}
+use Rattle.ix_signatures.specs.Signs.{Adds, Forgets, CallGives, SuperGives, received, claims_facts, posts_facts, zero_fields, own_fields, fields_facts, inherited_fields, told_by, told_by_call, told_facts}
+use Rattle.ix_signatures.specs.SignErrors.{ArgumentClaim, ConstructorClaim, HasEffect}
+use Rattle.ix_sign.specs.MethodRules.{method_rules, KindGives, AfterGives, RoundedGives}
+use Rattle.ix_sign.specs.RuleErrors.{KindErrors, PointErrors, OpText, Somewhere, SomewhereAsked, OverridesBy, TestEscapes, TextErrors}
 use Rattle.ix_errors.specs.declared.ranked.Ranked.{Ranked}
 use Rattle.ix_check.specs.MethodErrors.{Derives}
 use Rattle.ix_check.specs.Signatures.{signature_of, ErrorsOf}

@@ -20,8 +20,8 @@ use Rattle.ix_core.specs.Tables.{no_method, method_at, param_slot}
 use Rattle.ix_facts.specs.Assume.{claim_facts}
 use Rattle.ix_facts.specs.Stores.{Stored, IsAbove, Then}
 use Rattle.ix_rules_hold.specs.MachineSteps.{IsDeclared, own_path, on_paths, path_offset}
-use Rattle.ix_errors.specs.Signs.{Adds, Forgets, claims_facts, params_facts, received, received_params}
-use Rattle.ix_labels.specs.SignErrors.{AllRefuse, Unproved, OverrideParameter, OverrideResult, OverrideEffect, result_slot, of_run}
+use Rattle.ix_signatures.specs.Signs.{Adds, Forgets, claims_facts, params_facts, received, received_params}
+use Rattle.ix_signatures.specs.SignErrors.{AllRefuse, Unproved, OverrideParameter, OverrideResult, OverrideEffect, result_slot, of_run}
 use Rattle.ix_check.specs.Signatures.{signature_of, signatures}
 use Rattle.ix_check.proofs.DeclaredNames.{Declared, OffsetDeclared, AllDeclared, ParamsDeclared, MethodDeclared, declared_at}
 

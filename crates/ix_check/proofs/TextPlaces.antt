@@ -13,7 +13,7 @@ use Rattle.ix_core.specs.declared.program.Method.{Method}
 use Rattle.ix_core.specs.declared.program.Program.{Program}
 use Rattle.ix_core.specs.Code.{Code, End, Do, If, Break, Continue, Return, Throw, Loop, Condition, Known, Compare, Truth, Both, Either, Opposite}
 use Rattle.ix_core.specs.Tables.{body_of}
-use Rattle.ix_labels.specs.RuleErrors.{Somewhere, SomewhereAsked, OpText, TestEscapes, TextErrors, OverridesBy, EscapesAt, this_args, this_entries, is_this, escapes_by, escapes_in}
+use Rattle.ix_sign.specs.RuleErrors.{Somewhere, SomewhereAsked, OpText, TestEscapes, TextErrors, OverridesBy, EscapesAt, this_args, this_entries, is_this, escapes_by, escapes_in}
 use Rattle.ix_core.specs.CodePlaces.{ArgPlaces, OpPlaces, KindPlaces, TestPlaces, CodePlaces, AskedPlaces, MethodPlaces}
 use Rattle.ix_check.proofs.PointPlaces.{all_got, plain_place, unproved_place, part_place}
 

@@ -5,7 +5,7 @@ use Rattle.ix_core.specs.declared.op.Test.{Test}
 use Rattle.ix_core.specs.Code.{Code, End, Do, If, Break, Continue, Return, Throw, Loop, Condition, Known, Compare, Truth, Both, Either, Opposite}
 use Rattle.ix_graph.specs.Built.{kinds_of}
 use Rattle.ix_graph.specs.Graph.{Kind, Does, Compares, Onward, Through, Part, Source, Unreached, From, leads, behind_code, behind_condition, code_parts, condition_parts, method_parts}
-use Rattle.ix_labels.specs.RuleErrors.{Somewhere, SomewhereAsked}
+use Rattle.ix_sign.specs.RuleErrors.{Somewhere, SomewhereAsked}
 
 module _ (P : Op → Type 0) (Q : Test → Type 0) where
   abbrev pub Here : Kind → Type 0

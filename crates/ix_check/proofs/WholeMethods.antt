@@ -20,15 +20,15 @@ use Rattle.ix_graph.proofs.HeadTable.{stores_keep, stores_least}
 use Rattle.ix_graph.proofs.Numbers.{method_numbered, method_below}
 use Rattle.ix_graph.proofs.Solved.{labels_of, joined_of}
 use Rattle.ix_labels.specs.Labels.{AreLabelsOf}
-use Rattle.ix_labels.specs.MethodRules.{method_rules}
-use Rattle.ix_labels.specs.RuleErrors.{OverridesBy, OpText, TestEscapes}
-use Rattle.ix_labels.proofs.MethodLaws.{method_laws}
-use Rattle.ix_labels.proofs.ErrorsWeaker.{errors_weaker}
+use Rattle.ix_sign.specs.MethodRules.{method_rules}
+use Rattle.ix_sign.specs.RuleErrors.{OverridesBy, OpText, TestEscapes}
+use Rattle.ix_sign.proofs.MethodLaws.{method_laws}
+use Rattle.ix_sign.proofs.ErrorsWeaker.{errors_weaker}
 use Rattle.ix_errors.specs.declared.ranked.Ranked.{Ranked}
 use Rattle.ix_errors.specs.Exactly.{IsListed, AreExactly, AddsExactly}
 use Rattle.ix_errors.proofs.Refused.{adds_both}
-use Rattle.ix_labels.specs.Store.{Store}
-use Rattle.ix_labels.specs.StoredFacts.{stored}
+use Rattle.ix_store.specs.declared.store.Store.{Store}
+use Rattle.ix_store.specs.StoredFacts.{stored}
 use Rattle.ix_solve.proofs.LabelLists.{meaning_at}
 use Rattle.ix_soundness.specs.Errors.{NoErrors}
 use Rattle.ix_soundness.specs.Sound.{HasNoErrors}

@@ -11,10 +11,10 @@ use Rattle.ix_facts.specs.Stores.{Stored}
 use Rattle.ix_flow.specs.Flow.{Point, IsDerived}
 use Rattle.ix_graph.specs.Graph.{behind_code, method_parts}
 use Rattle.ix_graph.specs.Heads.{AreInOrder}
-use Rattle.ix_labels.specs.MethodRules.{method_rules}
-use Rattle.ix_labels.specs.RuleErrors.{PointErrors, TextErrors}
+use Rattle.ix_sign.specs.MethodRules.{method_rules}
+use Rattle.ix_sign.specs.RuleErrors.{PointErrors, TextErrors}
 use Rattle.ix_errors.specs.declared.ranked.Ranked.{Ranked}
-use Rattle.ix_labels.specs.Naming.{HaveSmallNames}
+use Rattle.ix_signatures.specs.Naming.{HaveSmallNames}
 use Rattle.ix_soundness.specs.Sound.{HasNoErrors}
 
 -- what a store gives at a point

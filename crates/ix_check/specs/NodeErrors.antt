@@ -10,9 +10,9 @@ use Rattle.ix_graph.specs.Graph.{Kind, Does, Compares, Returns, Ends}
 use Rattle.ix_graph.specs.Built.{kind_of}
 use Rattle.ix_labels.specs.declared.kept.RunLabels.{RunLabels}
 use Rattle.ix_labels.specs.Filled.{nodes_of, AreFilled}
-use Rattle.ix_labels.specs.RuleErrors.{PointErrors, OpText, TestEscapes}
-use Rattle.ix_labels.specs.Store.{Store}
-use Rattle.ix_labels.specs.StoredFacts.{stored}
+use Rattle.ix_sign.specs.RuleErrors.{PointErrors, OpText, TestEscapes}
+use Rattle.ix_store.specs.declared.store.Store.{Store}
+use Rattle.ix_store.specs.StoredFacts.{stored}
 use Rattle.ix_errors.specs.declared.ranked.Ranked.{Ranked}
 use Rattle.ix_errors.specs.Exactly.{AddsExactly}
 

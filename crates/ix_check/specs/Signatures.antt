@@ -7,8 +7,8 @@ use Rattle.ix_core.specs.declared.program.Method.{Method}
 use Rattle.ix_core.specs.declared.program.Program.{Program}
 use Rattle.ix_core.specs.Tables.{body_of}
 use Rattle.ix_flow.specs.Flow.{IsDerived}
-use Rattle.ix_labels.specs.MethodRules.{method_rules}
-use Rattle.ix_labels.specs.RuleErrors.{TextErrors}
+use Rattle.ix_sign.specs.MethodRules.{method_rules}
+use Rattle.ix_sign.specs.RuleErrors.{TextErrors}
 use Rattle.ix_check.specs.MethodErrors.{Derives}
 
 -- the method without its body, its locals and its slots

@@ -21,7 +21,7 @@ mod whole;
 pub use alone::method_errors;
 pub use ix_errors::{Ranked, list_errors};
 pub use ix_labels::Store;
-pub use ix_soundness::{names_are_small, overridden_is_there, soundness};
+pub use ix_soundness::{names_are_small, overridden_is_there};
 pub use laws::{judged_alone, loops_are_in_order};
 pub use loops::{labels, method_labels};
 pub use parts::check_joined;

@@ -4,15 +4,16 @@ ghost use Rattle.ix_core.specs.Code.{block_code};
 ghost use Rattle.ix_core.specs.Formed.{Formed};
 ghost use Rattle.ix_core.specs.Tables.{method_at};
 ghost use Rattle.ix_core.specs.Ready.{CanCheck};
-ghost use Rattle.ix_labels.specs.Graph.{behind_code};
+ghost use Rattle.ix_graph.specs.Graph.{behind_code};
 ghost use Rattle.ix_labels.specs.LoopLabels.{AreLoopLabels};
 ghost use Rattle.ix_labels.specs.Visits.{VisitsWithin};
 
 use crate::laws::loops_are_in_order;
 use ix_core::{Method, Profile, Program};
-use ix_labels::{Store, loop_labels};
+use ix_labels::loop_labels;
 use ix_solve::Steps;
 use ix_soundness::names_are_small;
+use ix_store::Store;
 use std::alloc::{AllocError, Global};
 use std::marker::Brand;
 use std::sync::ledger::{Blank, Ledger};

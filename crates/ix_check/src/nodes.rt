@@ -2,9 +2,9 @@
 
 ghost use Rattle.std.specs.Prelude.{OnOk};
 ghost use Rattle.ix_graph.specs.Built.{kind_of};
-ghost use Rattle.ix_labels.specs.StoredFacts.{stored};
+ghost use Rattle.ix_store.specs.StoredFacts.{stored};
 ghost use Rattle.ix_errors.specs.Exactly.{AddsExactly};
-ghost use Rattle.ix_labels.specs.Naming.{HasSmallNames, HaveSmallNames};
+ghost use Rattle.ix_signatures.specs.Naming.{HasSmallNames, HaveSmallNames};
 ghost use Rattle.ix_check.specs.NodeErrors.{LabelGives, TextGives, NodeGives, AddsAtLabels};
 
 use ix_core::{Method, Program};
@@ -13,7 +13,8 @@ use ix_errors::{
     push_escapes_of, push_missing_return, push_op_errors, push_post_errors, push_return_errors,
 };
 use ix_graph::NodeKind;
-use ix_labels::{RunLabels, Store};
+use ix_labels::RunLabels;
+use ix_store::Store;
 use std::alloc::{AllocError, Global};
 
 /// Those that a node's label gives.

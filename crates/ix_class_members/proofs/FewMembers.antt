@@ -6,8 +6,8 @@ use Rattle.ix_tree.specs.declared.decl.LocalDecl.{LocalDecl}
 use Rattle.ix_tree.specs.declared.decl.Member.{Member}
 use Rattle.ix_tree.specs.declared.decl.Member.TheVariants as member
 use Rattle.ix_meaning.specs.Declarators.{first_behind, members_behind, members}
-use Rattle.ix_symbols.specs.Members.{ClassOf, next_field, next_fields, fields_in, fields_from, methods_in, methods_from}
-use Rattle.ix_symbols.specs.Source.{members_in}
+use Rattle.ix_meaning.specs.Members.{ClassOf, next_field, next_fields, fields_in, fields_from, methods_in, methods_from}
+use Rattle.ix_meaning.specs.Source.{members_in}
 
 as_many : (first : Option LocalDecl) (ms : List Member) → length (members_behind first ms) ≡ length ms
 as_many first [] = refl

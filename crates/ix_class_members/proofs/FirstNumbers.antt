@@ -1,9 +1,9 @@
 -- A number leads to the first that passes a test.
 use Rattle.std.proofs.Common.{◌≡◌, ℕ, ◌+◌, Bool, true, false, cond, Option, Some, None, option_map, List, [], ◌∷◌, ◌++◌, length, refl, ap, sym, ◌∙◌, slice_get, get_or, drop, ◌<◌, append_assoc}
 use Rattle.std.proofs.lemmas.List.{length-append, at_drop_more}
-use Rattle.ix_symbols.specs.Field.{Field}
-use Rattle.ix_symbols.specs.Signature.{Signature}
-use Rattle.ix_symbols.specs.Members.{Callee, own_field, callable_if}
+use Rattle.ix_meaning.specs.declared.members.Field.{Field}
+use Rattle.ix_meaning.specs.declared.members.Signature.{Signature}
+use Rattle.ix_meaning.specs.Members.{Callee, own_field, callable_if}
 use Rattle.ix_class_members.specs.First.{found_or, first_where, is_field_named}
 use Rattle.ix_class_members.specs.World.{number_in, numbered, callable_at}
 

@@ -6,10 +6,10 @@ use Rattle.ix_tree.specs.declared.decl.ClassDecl.{ClassDecl}
 use Rattle.ix_tree.specs.declared.decl.Member.{Member}
 use Rattle.ix_tree.specs.declared.decl.Member.TheVariants as member
 use Rattle.ix_meaning.specs.Declarators.{members}
-use Rattle.ix_symbols.specs.Field.{Field}
-use Rattle.ix_symbols.specs.Signature.{Signature}
-use Rattle.ix_symbols.specs.Classes.{parents_by, parent, parent_in, onward, way_up, unseen, supers}
-use Rattle.ix_symbols.specs.Members.{ClassOf, next_field, next_fields, fields_in, fields_from, signature, methods_in, methods_from, own_field, callable_if}
+use Rattle.ix_meaning.specs.declared.members.Field.{Field}
+use Rattle.ix_meaning.specs.declared.members.Signature.{Signature}
+use Rattle.ix_meaning.specs.Classes.{parents_by, parent, parent_in, onward, way_up, unseen, supers}
+use Rattle.ix_meaning.specs.Members.{ClassOf, next_field, next_fields, fields_in, fields_from, signature, methods_in, methods_from, own_field, callable_if}
 use Rattle.ix_class_members.specs.First.{is_field_named}
 use Rattle.ix_class_members.proofs.FirstNumbers.{the_callee}
 

@@ -4,10 +4,10 @@ use Rattle.std.proofs.lemmas.Option.{slice_get_cases}
 use mathlib.Core.Path.{fun_ext}
 use Rattle.std.specs.HashMap.{get_by_text}
 use Rattle.ix_tree.specs.declared.decl.ClassDecl.{ClassDecl}
-use Rattle.ix_symbols.specs.Field.{Field}
-use Rattle.ix_symbols.specs.Signature.{Signature}
-use Rattle.ix_symbols.specs.Classes.{class_named, parents, parent, supers}
-use Rattle.ix_symbols.specs.Members.{World, Callee, world, fields, methods, own_field, own_method, own_constructor, is_method_named, is_constructor_named, class_name}
+use Rattle.ix_meaning.specs.declared.members.Field.{Field}
+use Rattle.ix_meaning.specs.declared.members.Signature.{Signature}
+use Rattle.ix_meaning.specs.Classes.{class_named, parents, parent, supers}
+use Rattle.ix_meaning.specs.Members.{World, Callee, world, fields, methods, own_field, own_method, own_constructor, is_method_named, is_constructor_named, class_name}
 use Rattle.ix_class_members.specs.declared.world.ClassWorld.{ClassWorld}
 use Rattle.ix_class_members.specs.declared.world.World.{World as Tables}
 use Rattle.ix_class_members.specs.World.{parent_in, supers_in, field_in, method_in, constructor_in, number_in, callable_at, shown, IsWorld, IsClass, AreClasses}

@@ -1,6 +1,6 @@
 -- The number of the first that passes a test.
 use Rattle.std.specs.Prelude.{ℕ, ◌+◌, ◌==◌, Bool, ◌&&◌, if◌then◌else◌, Option, Some, None, List, [], ◌∷◌, bytes_eq}
-use Rattle.ix_symbols.specs.Field.{Field}
+use Rattle.ix_meaning.specs.declared.members.Field.{Field}
 
 abbrev pub found_or : Option ℕ → Bool → ℕ → Option ℕ
 found_or (Some k) passes next = Some k

@@ -2,7 +2,7 @@
 use Rattle.std.specs.Prelude.{nat_lt, Bool, true, not, List}
 use Rattle.ix_tree.specs.declared.annot.Annot.{Annot}
 use Rattle.ix_tree.specs.declared.annot.TypeTree.{TypeTree}
-use Rattle.ix_meaning.specs.Table.{counted}
+use Rattle.ix_annot.specs.Table.{counted}
 use Rattle.ix_meaning.specs.Annotated.{is_of_method, of_method, of_result}
 use Rattle.ix_meaning.specs.Declarators.{counting}
 use Rattle.ix_class_members.specs.declared.part.Part.{Part}

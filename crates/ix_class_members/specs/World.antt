@@ -2,13 +2,13 @@
 use Rattle.std.specs.Prelude.{◌≡◌, ℕ, ◌+◌, Option, Some, None, List, [], ◌∷◌, slice_get}
 use Rattle.std.specs.HashMap.{get_by_text}
 use Rattle.ix_tree.specs.declared.decl.ClassDecl.{ClassDecl}
-use Rattle.ix_symbols.specs.Field.{Field}
-use Rattle.ix_symbols.specs.Signature.{Signature}
+use Rattle.ix_meaning.specs.declared.members.Field.{Field}
+use Rattle.ix_meaning.specs.declared.members.Signature.{Signature}
 use Rattle.ix_class_members.specs.declared.world.ClassWorld.{ClassWorld}
 use Rattle.ix_class_members.specs.declared.world.World.{World as Tables}
 use Rattle.ix_class_members.specs.declared.world.Called.{Called}
-use Rattle.ix_symbols.specs.Classes.{parents, parent, supers}
-use Rattle.ix_symbols.specs.Members.{World, Callee, world, fields, methods, is_method_named, is_constructor_named, class_name}
+use Rattle.ix_meaning.specs.Classes.{parents, parent, supers}
+use Rattle.ix_meaning.specs.Members.{World, Callee, world, fields, methods, is_method_named, is_constructor_named, class_name}
 use Rattle.ix_class_members.specs.First.{first_where, is_field_named}
 
 abbrev pub parent_in : Option ClassWorld → Option ℕ

@@ -5,15 +5,13 @@ ghost use Rattle.ix_core.specs.declared.claim.Claim.{Claim};
 ghost use Rattle.ix_core.specs.declared.claim.Post.{Post};
 ghost use Rattle.ix_core.specs.Posts.{same_post, same_when};
 ghost use Rattle.ix_core.specs.SameClaims.{distinct};
-ghost use Rattle.ix_meaning.specs.Expansion.{expanded};
+ghost use Rattle.ix_annot.specs.Expansion.{expanded};
 ghost use Rattle.ix_meaning.specs.Annotated as spec;
 ghost use Rattle.ix_class_members.specs.Seen.{seen, unseen, seen_post, unseen_posts};
 
+use ix_annot::{AnnotError, Claims, Found, Names, Naming, Target, expand, same_claim, same_name};
 use ix_core::{Claim, Name, Post};
-use ix_meaning::{
-    AnnotError, Claims, Found, NameError, Names, Naming, Note, Rule, Target, expand, same_claim,
-    same_name,
-};
+use ix_meaning::{NameError, Note, Rule};
 use ix_text::List;
 use ix_tree::Annot;
 use std::alloc::{AllocError, Global};

@@ -1,7 +1,7 @@
 //! Constants: `static final int` with a literal, optionally behind a minus.
 
 ghost use Rattle.std.specs.Prelude.{◌≡◌};
-ghost use Rattle.ix_symbols.specs.Members as spec;
+ghost use Rattle.ix_meaning.specs.Members as spec;
 ghost use Rattle.ix_class_members.specs.Literals.{literal_of};
 
 use ix_num::java_neg;

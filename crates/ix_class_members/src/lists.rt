@@ -2,8 +2,8 @@
 
 ghost use Rattle.std.specs.Prelude.{◌≡◌, ◌++◌, ◌+◌, ◌<◌, ◌≤◌, ◌^◌, ◌&&◌, not, length, map, option_map, IfOk, OnOk};
 ghost use Rattle.std.specs.HashMap.{get_by_text};
-ghost use Rattle.ix_symbols.specs.Members as spec;
-ghost use Rattle.ix_symbols.specs.Source.{members_in};
+ghost use Rattle.ix_meaning.specs.Members as spec;
+ghost use Rattle.ix_meaning.specs.Source.{members_in};
 ghost use Rattle.ix_meaning.specs.Declarators as declared;
 ghost use Rattle.ix_class_members.specs.Begun.{AllBegin, annotated, first_shown};
 
@@ -14,7 +14,7 @@ use crate::part::{Part, gathered};
 use crate::types::{target_before, written_type};
 use indexmap::IndexMap;
 use ix_core::Type_;
-use ix_symbols::{Field, Meaning, Signature};
+use ix_meaning::{Field, Meaning, Signature};
 use ix_text::{List, Text};
 use ix_tree::{ClassDecl, LocalDecl, Member, MethodDecl};
 use std::alloc::{AllocError, Global};

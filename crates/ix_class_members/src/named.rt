@@ -2,11 +2,12 @@
 
 ghost use Rattle.std.specs.Prelude.{◌≡◌, ◌<◌, ◌^◌, length, IfOk, None, ℕ, List as Elements};
 ghost use Rattle.std.specs.HashMap.{get_by_text};
-ghost use Rattle.ix_symbols.specs.Members.{is_method_named, is_constructor_named};
+ghost use Rattle.ix_meaning.specs.Members.{is_method_named, is_constructor_named};
 ghost use Rattle.ix_class_members.specs.First.{first_where, is_field_named};
 
 use indexmap::IndexMap;
-use ix_symbols::{Field, Signature, note_first};
+use ix_meaning::{Field, Signature};
+use ix_symbols::note_first;
 use std::alloc::{AllocError, Global};
 
 /// The numbers of a class's fields by their names. Of two with one name the first is meant.

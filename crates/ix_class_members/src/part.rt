@@ -4,7 +4,7 @@ ghost use Rattle.std.specs.Prelude.{◌≡◌, map, IfOk};
 ghost use Rattle.ix_meaning.specs.Annotated as spec;
 ghost use Rattle.ix_class_members.specs.Parts.{is_chosen, chosen};
 
-use ix_meaning::{counted, row_named};
+use ix_annot::{counted, row_named};
 use ix_text::List;
 use ix_tree::Annot;
 use std::alloc::{AllocError, Global};

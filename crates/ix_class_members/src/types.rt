@@ -7,8 +7,9 @@ ghost use Rattle.ix_meaning.specs.Types.{shaped};
 ghost use Rattle.ix_class_members.specs.ClassTypes.{class_type};
 
 use indexmap::IndexMap;
+use ix_annot::Target;
 use ix_core::{Base, Claim, Type_};
-use ix_meaning::{Meaning, NameError, Note, Rule, Target};
+use ix_meaning::{Meaning, NameError, Note, Rule};
 use ix_text::{List, Span};
 use ix_tree::{BaseTree, TypeTree};
 use std::alloc::AllocError;

@@ -2,16 +2,17 @@
 
 ghost use Rattle.std.specs.Prelude.{◌≡◌, ◌+◌, ◌<◌, ◌^◌, IfOk, option_copied, option_map, length, slice_get};
 ghost use Rattle.std.specs.HashMap.{get_by_text};
-ghost use Rattle.ix_symbols.specs.Members as members;
-ghost use Rattle.ix_symbols.specs.Classes as classes;
-ghost use Rattle.ix_symbols.specs.Source.{members_in};
+ghost use Rattle.ix_meaning.specs.Members as members;
+ghost use Rattle.ix_meaning.specs.Classes as classes;
+ghost use Rattle.ix_meaning.specs.Source.{members_in};
 ghost use Rattle.ix_class_members.specs.World as spec;
 
 use crate::lists::{fields, methods};
 use crate::named::{own_constructor, own_fields, own_methods};
 use indexmap::IndexMap;
 use ix_core::Type_;
-use ix_symbols::{Field, Signature, class_table, parent, parents, supers};
+use ix_meaning::{Field, Signature};
+use ix_symbols::{class_table, parent, parents, supers};
 use ix_text::List;
 use ix_tree::ClassDecl;
 use std::alloc::{AllocError, Global};

@@ -51,7 +51,7 @@ use Rattle.std.specs.Prelude.{IfOk}
 use Rattle.ix_front.proofs.BytesFound.{past-only, some_is}
 use Rattle.ix_front.proofs.OneFinding.{one_finding}
 use Rattle.ix_front.proofs.FoundPrograms.{found_formed, tree_parsed}
-use Rattle.ix_front.proofs.SafeSources.{safe_source}
+use Rattle.ix_source.proofs.SafeSources.{safe_source}
 use Rattle.ix_front.specs.Findings.{HasFormed}
 use Rattle.ix_core.specs.Ready.{CanCheck}
 use Rattle.ix_runs.proofs.OneRun.{runs_one, start_answers}

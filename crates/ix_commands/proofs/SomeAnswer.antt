@@ -4,7 +4,7 @@ use Rattle.std.proofs.lemmas.Bool.{cases_lt}
 use Rattle.ix_core.specs.declared.error.Error.{Error}
 use Rattle.ix_core.specs.declared.fact.Profile.{Profile}
 use Rattle.ix_core.specs.declared.program.Program.{Program}
-use Rattle.ix_runs.proofs.SomeStart.{Is, some_start}
+use Rattle.ix_machine.proofs.SomeStart.{Is, some_start}
 use Rattle.ix_words.specs.Commands.{Command, Check, Run, Bench, Verify, Guard}
 use Rattle.ix_replies.specs.Answer.{Answer}
 use Rattle.ix_front.specs.Found.{Finding, TooLong, Broken, Past, Misnamed, Whole, Found}

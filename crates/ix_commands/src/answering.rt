@@ -6,7 +6,7 @@ ghost use Rattle.ix_front.specs.Sources.{cert_in, source_name as source_name_of}
 ghost use Rattle.ix_front.specs.Found.{Finding as FoundOf, Found, TooLong, Whole};
 ghost use Rattle.ix_certify.specs.CertError.TheVariants as CertError;
 ghost use Rattle.ix_front.specs.Findings.{seen, IsPlaced, HasFormed};
-ghost use Rattle.ix_front.specs.CodePlaces.{PlacesWithin};
+ghost use Rattle.ix_core.specs.CodePlaces.{PlacesWithin};
 ghost use Rattle.ix_core.specs.Ready.{CanCheck};
 ghost use Rattle.ix_core.specs.Formed.{Formed};
 ghost use Rattle.ix_commands.specs.Promises.{PromisesWhole, PromisesOn, Promises, SafeProgram};

@@ -27,13 +27,8 @@ pub mod Ready
 pub mod FirstLine
 pub mod PathNumber
 -- Passed on from ix_num.
-pub use Rattle.ix_num.specs.Arithmetic
-pub use Rattle.ix_num.specs.Comparisons
 pub use Rattle.ix_num.specs.Intervals
 pub use Rattle.ix_num.specs.Ints
 pub use Rattle.ix_num.specs.OpRanges
 pub use Rattle.ix_num.specs.declared.arith.Arith
 pub use Rattle.ix_num.specs.declared.interval.Interval
-pub use Rattle.ix_num.specs.declared.rel.Rel
--- Passed on from ix_text.
-pub use Rattle.ix_text.specs.declared.span.Span

@@ -8,7 +8,7 @@ use Rattle.ix_core.specs.declared.op.Test.{Test}
 use Rattle.ix_core.specs.declared.program.Method.{Method}
 use Rattle.ix_errors.specs.declared.ranked.Ranked.{Ranked}
 use Rattle.ix_errors.specs.Exactly.{AreExactly}
-use Rattle.ix_sign.specs.SignErrors.{plain}
+use Rattle.ix_signatures.specs.SignErrors.{plain}
 use Rattle.ix_errors.proofs.Refused.{exactly_none, exactly_both, exactly_same}
 use Rattle.ix_sign.specs.RuleErrors.{EscapesAt, OpEscapes, TestEscapes, escapes_by, escapes_in}
 use Rattle.ix_errors.specs.Escapes.{errors_at}

@@ -15,10 +15,10 @@ use Rattle.ix_core.specs.declared.op.Op.{Op}
 use Rattle.ix_core.specs.declared.program.Method.{Method}
 use Rattle.ix_facts.specs.AfterOperation.{loaded_claims}
 use Rattle.ix_facts.specs.Stores.{Stored}
-use Rattle.ix_signatures.specs.MachineSteps.{on_paths, own_path}
+use Rattle.ix_rules_hold.specs.MachineSteps.{on_paths, own_path}
 use Rattle.ix_errors.specs.Exactly.{AreExactly}
 use Rattle.ix_errors.specs.Refusals.{refusals, not_proved}
-use Rattle.ix_sign.specs.SignErrors.{Refuses, part}
+use Rattle.ix_signatures.specs.SignErrors.{Refuses, part}
 use Rattle.ix_errors.proofs.Refused.{fails_refused, exactly_none, exactly_both, exactly_same, refusals_exact}
 use Rattle.ix_errors.specs.Lists.{fails, element_refusals, entry_refusals, zero_fails, fresh_refusals}
 use Rattle.ix_sign.specs.RuleErrors.{zero_meets, no_path, subject_of, AssignClaim, ElementClaim, EntryClaim, FreshElement}

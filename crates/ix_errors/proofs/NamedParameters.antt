@@ -14,7 +14,7 @@ use Rattle.ix_core.specs.Objects.{claim_names, post_names, Names, PostsName}
 use Rattle.ix_core.specs.Tables.{param_slot}
 use Rattle.ix_errors.specs.declared.ranked.Ranked.{Ranked}
 use Rattle.ix_errors.specs.Exactly.{AreExactly}
-use Rattle.ix_sign.specs.SignErrors.{plain, part}
+use Rattle.ix_signatures.specs.SignErrors.{plain, part}
 use Rattle.ix_errors.proofs.Refused.{exactly_none}
 use Rattle.ix_sign.specs.RuleErrors.{AssignsNamed}
 use Rattle.ix_errors.specs.Parameters.{is_param, some_param, names_param, some_names_param, post_names_param, some_post_names_param, param_of, is_named_by, is_named}

@@ -15,8 +15,8 @@ use Rattle.ix_facts.specs.Systems.{HaveClasses}
 use Rattle.ix_facts.specs.Stores.{Stored, IsAbove, IsStoreOf, IsAdded, IsForgotten, Then, IsStep, with_facts}
 use Rattle.ix_facts.proofs.StepLaws.{then_step}
 use Rattle.ix_facts.proofs.StoreLaws.{below_itself, store_above, store_least}
-use Rattle.ix_signatures.specs.MachineSteps.{on_paths, own_path}
-use Rattle.ix_store.specs.ChangedPaths.{of_called}
+use Rattle.ix_rules_hold.specs.MachineSteps.{on_paths, own_path}
+use Rattle.ix_fact_paths.specs.ChangedPaths.{of_called}
 use Rattle.ix_store.specs.declared.store.Store.{Store}
 use Rattle.ix_store.specs.StoredFacts.{stored}
 use Rattle.ix_errors.specs.Exactly.{AreExactly}

@@ -7,7 +7,7 @@ use Rattle.ix_core.specs.declared.claim.Post.{Post}
 use Rattle.ix_core.specs.declared.error.Error.{Error}
 use Rattle.ix_core.specs.declared.program.Method.{Method}
 use Rattle.ix_facts.specs.Stores.{Stored}
-use Rattle.ix_signatures.specs.MachineSteps.{on_paths, own_path}
+use Rattle.ix_rules_hold.specs.MachineSteps.{on_paths, own_path}
 use Rattle.ix_errors.specs.declared.ranked.Ranked.{Ranked}
 use Rattle.ix_errors.specs.Exactly.{AreExactly}
 use Rattle.ix_errors.specs.Refusals.{post_fails, post_refusals}

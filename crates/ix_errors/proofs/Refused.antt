@@ -20,7 +20,7 @@ use Rattle.ix_core.specs.declared.program.Method.{Method}
 use Rattle.ix_core.specs.declared.program.Program.{Program}
 use Rattle.ix_core.specs.Tables.{method_at, field_at, all_fields, param_slot}
 use Rattle.ix_facts.specs.Stores.{Stored, Unreachable, Reached, IsProved}
-use Rattle.ix_signatures.specs.MachineSteps.{on_paths, own_path}
+use Rattle.ix_rules_hold.specs.MachineSteps.{on_paths, own_path}
 use Rattle.ix_errors.specs.declared.ranked.Ranked.{Ranked}
 use Rattle.ix_errors.specs.Exactly.{IsListed, AreExactly, AddsExactly}
 use Rattle.ix_signatures.specs.Names.{call_path, object_path, written_path, names_field}

@@ -14,7 +14,7 @@ use Rattle.ix_core.specs.declared.program.Method.{Method}
 use Rattle.ix_core.specs.declared.program.Program.{Program}
 use Rattle.ix_core.specs.Tables.{field_at, no_field}
 use Rattle.ix_facts.specs.Stores.{Stored, IsAdded, with_facts}
-use Rattle.ix_signatures.specs.MachineSteps.{on_paths}
+use Rattle.ix_rules_hold.specs.MachineSteps.{on_paths}
 use Rattle.ix_errors.specs.Exactly.{AreExactly}
 use Rattle.ix_signatures.specs.Names.{written_path, is_built, names_field}
 use Rattle.ix_errors.specs.Refusals.{refusals, not_proved, dependent_refusals}

@@ -2,7 +2,7 @@
 use Rattle.std.specs.Prelude.{Bool, if◌then◌else◌, List, [], ◌∷◌}
 use Rattle.ix_text.specs.declared.span.Span.{Span}
 use Rattle.ix_errors.specs.declared.ranked.Ranked.{Ranked}
-use Rattle.ix_sign.specs.SignErrors.{plain}
+use Rattle.ix_signatures.specs.SignErrors.{plain}
 
 abbrev pub place_if : Bool → Span → List Span
 place_if so place = if so then place ∷ [] else []

@@ -17,12 +17,5 @@ pub mod Least
 -- Passed on from ix_sign.
 pub use Rattle.ix_sign.specs.Names
 pub use Rattle.ix_sign.specs.Signs
-pub use Rattle.ix_sign.specs.Store
-pub use Rattle.ix_sign.specs.StoredFacts
 pub use Rattle.ix_sign.specs.MethodRules
 pub use Rattle.ix_sign.specs.RuleErrors
-pub use Rattle.ix_sign.specs.StoreOrder
-pub use Rattle.ix_sign.specs.Naming
-pub use Rattle.ix_sign.specs.SignErrors
--- Passed on from ix_signatures.
-pub use Rattle.ix_signatures.specs.MachineSteps

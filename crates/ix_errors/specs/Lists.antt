@@ -14,7 +14,7 @@ use Rattle.ix_facts.specs.AfterOperation.{loaded_claims}
 use Rattle.ix_facts.specs.Stores.{Stored}
 use Rattle.ix_errors.specs.declared.ranked.Ranked.{Ranked}
 use Rattle.ix_errors.specs.Refusals.{is_proved, refusals, not_proved}
-use Rattle.ix_sign.specs.SignErrors.{plain, part}
+use Rattle.ix_signatures.specs.SignErrors.{plain, part}
 use Rattle.ix_sign.specs.RuleErrors.{zero_meets, no_path}
 
 -- the store doesn't prove the claim of the path

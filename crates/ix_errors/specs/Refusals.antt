@@ -19,7 +19,7 @@ use Rattle.ix_core.specs.Tables.{field_at, param_slot}
 use Rattle.ix_facts.specs.Assume.{proves}
 use Rattle.ix_facts.specs.Facts.{in_orders}
 use Rattle.ix_facts.specs.Stores.{Stored, Unreachable, Reached}
-use Rattle.ix_signatures.specs.MachineSteps.{on_paths, own_path}
+use Rattle.ix_rules_hold.specs.MachineSteps.{on_paths, own_path}
 use Rattle.ix_errors.specs.declared.ranked.Ranked.{Ranked}
 use Rattle.ix_signatures.specs.Names.{call_path, object_path, written_path, names_field}
 use Rattle.ix_signatures.specs.SignErrors.{unproved, counts_at, post_subject}

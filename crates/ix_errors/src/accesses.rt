@@ -7,10 +7,10 @@ ghost use Rattle.ix_core.specs.declared.fact.Path.TheVariants.{Slot};
 ghost use Rattle.ix_core.specs.declared.fact.PathClaim.TheVariants as path_claim;
 ghost use Rattle.ix_core.specs.declared.fact.PathOff.TheVariants as off;
 ghost use Rattle.ix_facts.specs.AfterOperation as after;
-ghost use Rattle.ix_sign.specs.StoredFacts.{stored};
+ghost use Rattle.ix_store.specs.StoredFacts.{stored};
 ghost use Rattle.ix_errors.specs.Exactly.{AddsExactly};
 ghost use Rattle.ix_errors.specs.Refusals.{refusals, not_proved};
-ghost use Rattle.ix_sign.specs.SignErrors as signs;
+ghost use Rattle.ix_signatures.specs.SignErrors as signs;
 ghost use Rattle.ix_errors.specs.Lists.{fails, plain_if, element_refusals, entry_refusals, fresh_refusals, zero_fails};
 ghost use Rattle.ix_sign.specs.RuleErrors.{AccessLow, AccessHigh, LengthNegative, ElementClaim, EntryClaim, FreshElement, no_path};
 
@@ -18,7 +18,7 @@ use crate::elements::{element_claim, loaded_claims, zero_meets};
 use crate::ranked::Ranked;
 use crate::unproved::refuses;
 use ix_core::{Claim, Detail, Error, Op, Path, PathClaim, PathOff, Subject, Type_};
-use ix_sign::Store;
+use ix_store::Store;
 use ix_text::Span;
 use std::alloc::AllocError;
 

@@ -2,7 +2,7 @@
 
 ghost use Rattle.std.specs.Prelude.{◌≡◌};
 ghost use Rattle.ix_facts.specs.AfterOperation as after;
-ghost use Rattle.ix_signatures.specs.MachineSteps.{on_paths, path_offset};
+ghost use Rattle.ix_rules_hold.specs.MachineSteps.{on_paths, path_offset};
 ghost use Rattle.ix_sign.specs.RuleErrors as rules;
 
 use ix_core::{Base, Claim, Off, Path, PathClaim, PathOff, Type_};

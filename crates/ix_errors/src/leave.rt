@@ -14,8 +14,8 @@ ghost use Rattle.ix_signatures.specs.SignErrors.{ReturnClaim, ConstructorClaim, 
 
 use crate::ranked::{Ranked, push_plain};
 use crate::unproved::{Report, push_unproved};
-use ix_core::{Method, Path, Program, Subject, Type_};
-use ix_signatures::{Naming, claims_of, instance_fields};
+use ix_core::{Method, Path, Program, Subject, Type_, instance_fields};
+use ix_signatures::{Naming, claims_of};
 use ix_store::Store;
 use ix_text::Span;
 use std::alloc::{AllocError, Global};

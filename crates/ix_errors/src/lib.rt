@@ -31,7 +31,7 @@ mod write;
 pub use call_errors::{push_argument_errors, push_effect_error};
 pub use comparisons::push_escapes_in;
 pub use field_errors::push_field_errors;
-pub use ix_sign::{Store, after, enter, tell};
+pub use ix_sign::Store;
 pub use leave::{push_constructor_errors, push_missing_return, push_return_errors};
 pub use list::list_errors;
 pub use op_errors::push_op_errors;

@@ -1,11 +1,11 @@
 //! The errors of an operation, by the store before it.
 
 ghost use Rattle.std.specs.Prelude.{◌≡◌, ◌⊎◌, OnOk};
-ghost use Rattle.ix_sign.specs.StoredFacts.{stored};
+ghost use Rattle.ix_store.specs.StoredFacts.{stored};
 ghost use Rattle.ix_errors.specs.Exactly.{AddsExactly};
-ghost use Rattle.ix_sign.specs.Names as names;
-ghost use Rattle.ix_sign.specs.Naming.{HasSmallNames, HaveSmallNames};
-ghost use Rattle.ix_sign.specs.SignErrors as signs;
+ghost use Rattle.ix_signatures.specs.Names as names;
+ghost use Rattle.ix_signatures.specs.Naming.{HasSmallNames, HaveSmallNames};
+ghost use Rattle.ix_signatures.specs.SignErrors as signs;
 ghost use Rattle.ix_sign.specs.RuleErrors as rules;
 
 use crate::accesses::{
@@ -18,7 +18,9 @@ use crate::ranked::Ranked;
 use crate::unproved::{Report, push_unproved};
 use crate::write::Write;
 use ix_core::{Method, Name, Op, OpKind, Path, Program, Subject, Type_};
-use ix_sign::{Naming, Store, variable_at};
+use ix_sign::variable_at;
+use ix_signatures::Naming;
+use ix_store::Store;
 use std::alloc::{AllocError, Global};
 
 /// A variable of the method as the subject of an error.

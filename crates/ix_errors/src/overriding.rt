@@ -6,7 +6,7 @@ ghost use Rattle.ix_core.specs.declared.fact.Path.TheVariants.{Slot};
 ghost use Rattle.ix_core.specs.Tables as tables;
 ghost use Rattle.ix_core.specs.Tables.{method_at, param_slots};
 ghost use Rattle.ix_facts.specs.Stores.{IsStoreOf, Then};
-ghost use Rattle.ix_signatures.specs.MachineSteps.{own_path};
+ghost use Rattle.ix_rules_hold.specs.MachineSteps.{own_path};
 ghost use Rattle.ix_store.specs.StoredFacts.{stored};
 ghost use Rattle.ix_errors.specs.Exactly.{AddsExactly, AreExactly};
 ghost use Rattle.ix_signatures.specs.Naming.{AreSmallClaims, HasSmallNames};

@@ -1,7 +1,7 @@
 //! The places of parts of operations.
 
 ghost use Rattle.std.specs.Prelude.{◌≡◌};
-ghost use Rattle.ix_sign.specs.SignErrors as signs;
+ghost use Rattle.ix_signatures.specs.SignErrors as signs;
 
 use ix_core::Op;
 use ix_text::Span;

@@ -14,11 +14,6 @@ mod scope;
 mod selections;
 mod values;
 
-pub use ix_class_members::{
-    Annotations, Begun, Declaration, World, begin_with, further_annotations, of_variable,
-    own_annotations, variable,
-};
-pub use ix_symbols::{BOOLEAN, Need};
 pub use naming::InAnnotation;
 pub use rules::{note_declared, wrong, wrong_if};
 pub use scope::{Known, Local, Param, Scopes};

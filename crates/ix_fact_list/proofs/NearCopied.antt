@@ -4,7 +4,7 @@ use Rattle.std.proofs.Common.{arith, inl, inr, ap, ap₂, sym, subst, ◌∙◌,
 use Rattle.std.proofs.lemmas.Bool.{cases_lt, and_parts}
 use Rattle.std.proofs.lemmas.Bool.Decides.{nat_tests}
 use Rattle.std.proofs.lemmas.List.{get_or-take, get_or_past, length-take, take_all}
-use Rattle.ix_core.specs.Ints.{least_int, greatest_int}
+use Rattle.ix_num.specs.Ints.{least_int, greatest_int}
 use Rattle.ix_core.specs.declared.fact.Path.{Path}
 use Rattle.ix_core.specs.declared.fact.Path.TheVariants.{Slot, FieldOf}
 use Rattle.ix_core.specs.declared.fact.Fact.{Fact}

@@ -1,6 +1,6 @@
 -- Numbers of near paths, each at the path's place; where no number stands there, it is a default.
 use Rattle.std.specs.Prelude.{◌≡◌, ℕ, ℤ, true, pos, Option, Some, None, List, get_or}
-use Rattle.ix_core.specs.Ints.{least_int, greatest_int}
+use Rattle.ix_num.specs.Ints.{least_int, greatest_int}
 use Rattle.ix_core.specs.declared.fact.Path.{Path}
 use Rattle.ix_core.specs.declared.fact.Fact.{Fact}
 use Rattle.ix_facts.specs.Bounds.{is_path, when, at_least, at_most, range_low, range_high, length_low, length_high, lower_bound, upper_limit}

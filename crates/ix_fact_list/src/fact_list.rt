@@ -14,13 +14,13 @@ ghost use Rattle.ix_fact_paths.specs.Grouped.{on_grouped, on_list};
 ghost use Rattle.ix_fact_paths.specs.Spared.{some_named};
 
 use crate::ends::ends_of;
-use ix_bounds::{self, Groups, Indexed};
+use ix_bounds::{self, Groups};
 use ix_core::{Fact, OpKind, Path, PathOff};
 use ix_fact_paths::{
     Grouped, assigned_path, in_all_orders, ints_and_arrays, names_path, names_target,
     some_name_path, some_name_target,
 };
-use ix_facts::Know;
+use ix_facts::{Indexed, Know};
 use std::alloc::{AllocError, Global};
 use std::marker::Model;
 

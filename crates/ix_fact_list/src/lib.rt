@@ -12,8 +12,4 @@ mod limits;
 
 pub use ends::{before_links, up_to_ends};
 pub use fact_list::FactList;
-pub use ix_bounds as bounds;
-pub use ix_fact_paths::{
-    have_one_order, in_all_orders, ints_and_arrays, ints_and_arrays_among, with_ints,
-};
 pub use limits::Limits;

@@ -2,7 +2,7 @@
 
 ghost use Rattle.std.specs.Prelude.{◌≡◌, ◌<◌, ◌≤◌, ◌+ℤ◌, ◌-ℤ◌, ℕ, pos, true, false, All, Some, get_or, length, take, nat_eq, IfOk, OnOk, IfSome, IfNone};
 ghost use Rattle.ix_core.specs.declared.fact.Fact.TheVariants.{Less};
-ghost use Rattle.ix_core.specs.Ints.{least_int, greatest_int};
+ghost use Rattle.ix_num.specs.Ints.{least_int, greatest_int};
 ghost use Rattle.ix_facts.specs.Bounds as spec;
 ghost use Rattle.ix_facts.specs.Bounds.{at_least, at_most, is_path, when};
 ghost use Rattle.ix_facts.specs.Small.{HasSmallNumbers, IsEnd, IsLimit};

@@ -2,8 +2,8 @@
 use Rattle.std.specs.Prelude.{◌≡◌, ℕ, ◌<◌, ◌+◌, Bool, true, false, List, [], ◌∷◌, ◌++◌, length, drop, cond}
 use Rattle.std.proofs.Common.{sym, ap, ◌∙◌, get_or}
 use Rattle.std.proofs.lemmas.List.{append_assoc, at_drop_more}
-use Rattle.ix_facts.specs.Path.{Path}
-use Rattle.ix_facts.specs.Fact.{Fact}
+use Rattle.ix_core.specs.declared.fact.Path.{Path}
+use Rattle.ix_core.specs.declared.fact.Fact.{Fact}
 use Rattle.ix_facts.specs.Forget.{names, without}
 
 module _ (is : Path → Bool) (facts : List Fact) (k : ℕ) (d : Fact) (old whole : List Fact) where

@@ -12,5 +12,3 @@ mod Filtered
 mod OnePath
 mod RisingMarks
 mod KeptFirst
--- Passed on from ix_facts.
-pub use Rattle.ix_facts.proofs.PathOrders

@@ -2,8 +2,8 @@
 use Rattle.std.specs.Prelude.{◌≡◌, ◌==◌, ℕ, suc, Bool, true, false}
 use Rattle.std.proofs.Common.{arith, sym, ◌∙◌}
 use Rattle.std.proofs.lemmas.Bool.{false≢true, eqb-true}
-use Rattle.ix_facts.specs.Path.{Path}
-use Rattle.ix_facts.specs.Path.TheVariants.{Slot, FieldOf}
+use Rattle.ix_core.specs.declared.fact.Path.{Path}
+use Rattle.ix_core.specs.declared.fact.Path.TheVariants.{Slot, FieldOf}
 use Rattle.ix_facts.specs.Forget.{of_path}
 use Rattle.ix_facts.specs.PathOrder.{path_itself}
 

@@ -2,10 +2,10 @@
 use Rattle.std.specs.Prelude.{◌≡◌, Bool, false, ◌||◌, List, [], ◌∷◌, refl}
 use Rattle.std.proofs.Common.{ap, sym, ◌∙◌}
 use Rattle.std.proofs.lemmas.Bool.{false≢true}
-use Rattle.ix_facts.specs.Path.{Path}
-use Rattle.ix_facts.specs.Fact.{Fact}
+use Rattle.ix_core.specs.declared.fact.Path.{Path}
+use Rattle.ix_core.specs.declared.fact.Fact.{Fact}
 use Rattle.ix_facts.specs.Forget.{names, without}
-use Rattle.ix_facts.specs.Cases.{by_test}
+use Rattle.ix_core.proofs.Cases.{by_test}
 
 abbrev pub some_named : (Path → Bool) → List Fact → Bool
 some_named is [] = false

@@ -3,7 +3,7 @@
 ghost use Rattle.std.specs.Prelude.{◌≡◌, IfOk, IsTrue, option_to_list};
 ghost use Rattle.ix_facts.specs.Forget.{of_path, without};
 ghost use Rattle.ix_facts.specs.After.{of_target};
-ghost use Rattle.ix_facts.specs.Fact.TheVariants.{Rng, LenRng, Less, Upper};
+ghost use Rattle.ix_core.specs.declared.fact.Fact.TheVariants.{Rng, LenRng, Less, Upper};
 ghost use Rattle.ix_facts.specs.Exact.{if_some};
 ghost use Rattle.ix_facts.specs.Round as round;
 ghost use Rattle.ix_facts.specs.Round.{Rises};
@@ -11,7 +11,7 @@ ghost use Rattle.ix_facts.specs.Systems.{system_rounded};
 
 use crate::forget::{names_path, names_target};
 use crate::landmarks::{mark_above, mark_below, rise};
-use ix_facts::{Fact, OpKind, Path, PathOff};
+use ix_core::{Fact, OpKind, Path, PathOff};
 use std::alloc::{AllocError, Global};
 
 /// The facts that don't name the path; of a slot also without those that name a field of the object in it.

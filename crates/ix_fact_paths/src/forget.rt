@@ -4,7 +4,7 @@ ghost use Rattle.std.specs.Prelude.{◌≡◌};
 ghost use Rattle.ix_facts.specs.Forget.{of_path, offset_names, names};
 ghost use Rattle.ix_facts.specs.After.{of_target};
 
-use ix_facts::{Fact, OpKind, Path, PathOff};
+use ix_core::{Fact, OpKind, Path, PathOff};
 
 /// Whether the second path is the first, or a field of the object in it.
 pub fn is_of_path(path: &Path, p: &Path) -> bool

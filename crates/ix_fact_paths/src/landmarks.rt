@@ -1,7 +1,7 @@
 //! The landmarks next to a number. A method's landmarks rise: there they are found by binary search.
 
 ghost use Rattle.std.specs.Prelude.{◌≡◌, int_le, IfSome, IsTrue, IsFalse, Some};
-ghost use Rattle.ix_facts.specs.Ints.{IsInt};
+ghost use Rattle.ix_num.specs.Ints.{IsInt};
 ghost use Rattle.ix_facts.specs.Bounds.{when};
 ghost use Rattle.ix_facts.specs.Round as round;
 ghost use Rattle.ix_facts.specs.Round.{Rises};

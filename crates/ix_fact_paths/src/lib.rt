@@ -30,7 +30,6 @@ pub use changed::{Changed, changes_some, unchanged, unchanged_paths};
 pub use filters::{facts_without_path, facts_without_target, rounded_facts};
 pub use forget::{is_of_path, is_of_target, names_path, names_target};
 pub use grouped::Grouped;
-pub use ix_facts::is_same_path;
 pub use named::{ints_and_arrays, ints_and_arrays_among, with_ints};
 pub use orders::{have_one_order, in_all_orders};
 pub use path_index::PathIndex;

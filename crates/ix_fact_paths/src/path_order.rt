@@ -3,12 +3,12 @@
 ghost use Rattle.std.specs.Prelude.{◌≡◌, true};
 ghost use Rattle.std.specs.Cmp.{IsTotalOrder};
 ghost use Rattle.std.specs.Ordering.{is_eq};
-ghost use Rattle.ix_facts.specs.Path.{Path};
-ghost use Rattle.ix_facts.specs.PathOff.{PathOff};
+ghost use Rattle.ix_core.specs.declared.fact.Path.{Path};
+ghost use Rattle.ix_core.specs.declared.fact.PathOff.{PathOff};
 ghost use Rattle.ix_facts.specs.Bounds.{is_path, is_offset};
 ghost use Rattle.ix_facts.specs.PathOrder.{path_cmp, offset_cmp};
 
-use ix_facts::{Path, PathOff};
+use ix_core::{Path, PathOff};
 use std::cmp::Ordering;
 
 /// Slots before fields, each by its numbers.

@@ -1,13 +1,13 @@
 //! Whether facts name a path that is to change.
 
 ghost use Rattle.std.specs.Prelude.{◌≡◌, IfSome, IfNone};
-ghost use Rattle.ix_facts.specs.Path.{Path};
+ghost use Rattle.ix_core.specs.declared.fact.Path.{Path};
 ghost use Rattle.ix_facts.specs.Forget.{of_path};
 ghost use Rattle.ix_facts.specs.After.{of_target};
 ghost use Rattle.ix_fact_paths.specs.Spared.{some_named};
 
 use crate::forget::{names_path, names_target};
-use ix_facts::{Fact, OpKind, Path};
+use ix_core::{Fact, OpKind, Path};
 
 /// The path that the operation changes, where it may change that path and what is in it, and no other; none exactly where no path is such (JLS 15.26). It
 /// takes no memory.

@@ -1,7 +1,8 @@
 //! Operations as plain data.
 
-use ix_core::{Base, Claim, List, Literal, OpKind, Type_, UnaryNum};
+use ix_core::{Base, Claim, Literal, OpKind, Type_, UnaryNum};
 use ix_num::Arith;
+use ix_text::List;
 use std::alloc::{AllocError, Global};
 
 /// What the slots or paths of a step hold: ints, booleans, or arrays of ints.

@@ -1,7 +1,7 @@
 -- Two classes made one.
 use Rattle.std.specs.Prelude.{◌≡◌, ◌⊎◌, ℕ, suc, zero, ◌+◌, ◌≤◌, true, cond, List, [], ◌∷◌, Some, slice_get, take, length, refl}
 use Rattle.std.proofs.Common.{arith, add-one, inl, inr, sym, ap, ◌∙◌, subst, ⊎_elim}
-use Rattle.ix_facts.specs.LookUps.{by_test}
+use Rattle.ix_lattice.specs.LookUps.{by_test}
 use Rattle.ix_core.specs.declared.fact.Path.{Path}
 use Rattle.ix_core.specs.declared.fact.Fact.{Fact}
 use Rattle.ix_core.specs.declared.fact.Fact.TheVariants.{Same}

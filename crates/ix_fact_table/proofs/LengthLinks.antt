@@ -2,7 +2,7 @@
 use Rattle.std.specs.Prelude.{◌≡◌, ◌⊎◌, true, List, [], ◌∷◌, ◌++◌, Option, Some, None, Result, Ok, Err, OnOk, refl}
 use Rattle.std.proofs.Common.{inl, inr, sym, ap, ◌∙◌, subst, ⊎_elim}
 use Rattle.std.proofs.lemmas.List.{append_assoc}
-use Rattle.ix_facts.specs.LookUps.{by_test}
+use Rattle.ix_lattice.specs.LookUps.{by_test}
 use Rattle.ix_core.specs.declared.fact.Path.{Path}
 use Rattle.ix_core.specs.declared.fact.Fact.{Fact}
 use Rattle.ix_core.specs.declared.fact.Fact.TheVariants.{Rng, LenRng, Low, Same, IsLen, Less, Sum, Search, Neg, Upper}

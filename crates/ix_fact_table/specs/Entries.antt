@@ -2,7 +2,7 @@
 use Rattle.std.specs.Prelude.{Bool, true, cond, not, ◌&&◌, ℤ, pos, negsuc, int_le, Option, Some, None}
 use Rattle.std.specs.Ordering.{is_gt}
 use Rattle.std.specs.Int.{int_min, int_max}
-use Rattle.ix_core.specs.Ints.{least_int, greatest_int, IsInt}
+use Rattle.ix_num.specs.Ints.{least_int, greatest_int, IsInt}
 use Rattle.ix_core.specs.declared.fact.PathOff.TheVariants.{Plus}
 use Rattle.ix_core.specs.declared.fact.Fact.{Fact}
 use Rattle.ix_core.specs.declared.fact.Fact.TheVariants.{Rng, LenRng, Low, Same, Less, Sum, Upper}

@@ -1,8 +1,8 @@
 -- What a table says, and the order of tables.
 use Rattle.std.specs.Prelude.{ℕ, ◌+◌, ℤ, pos, ◌-ℤ◌, ◌≤ℤ◌, unsigned_abs, List, [], ◌∷◌}
 use Rattle.std.specs.Int.{int_min, int_max}
-use Rattle.ix_core.specs.Ints.{least_int, greatest_int}
-use Rattle.ix_facts.specs.FactMap.{facts_rank}
+use Rattle.ix_num.specs.Ints.{least_int, greatest_int}
+use Rattle.ix_lattice.specs.FactMap.{facts_rank}
 use Rattle.ix_core.specs.declared.fact.Fact.{Fact}
 use Rattle.ix_core.specs.declared.fact.Fact.TheVariants.{Rng, LenRng, Low, Less, Upper}
 use Rattle.ix_facts.specs.declared.kind.Kind.{Kind}

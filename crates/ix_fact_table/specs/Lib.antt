@@ -15,7 +15,3 @@ pub mod Links
 pub mod Listed
 pub mod Saturated
 pub mod Beside
--- Passed on from ix_fact_paths.
-pub use Rattle.ix_fact_paths.specs.Spared
-pub use Rattle.ix_fact_paths.specs.ByPath
-pub use Rattle.ix_fact_paths.specs.PutLaws

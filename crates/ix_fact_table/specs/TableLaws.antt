@@ -6,10 +6,10 @@ use Rattle.std.proofs.Common.{arith, inl, inr, ap, sym, ◌∙◌, subst, ⊎_el
 use Rattle.std.proofs.lemmas.Bool.{false≢true}
 use Rattle.std.proofs.lemmas.Cmp.{tied_itself}
 use Rattle.std.proofs.lemmas.Int.{ints, clamps}
-use Rattle.ix_core.specs.Ints.{least_int, greatest_int}
-use Rattle.ix_facts.specs.Lattice.{LatticeLaws}
-use Rattle.ix_facts.specs.FactMap.{fact_at, FactsBelow, facts_rank}
-use Rattle.ix_facts.specs.FactMapLaws.{facts_laws}
+use Rattle.ix_num.specs.Ints.{least_int, greatest_int}
+use Rattle.ix_lattice.specs.Lattice.{LatticeLaws}
+use Rattle.ix_lattice.specs.FactMap.{fact_at, FactsBelow, facts_rank}
+use Rattle.ix_lattice.specs.FactMapLaws.{facts_laws}
 use Rattle.ix_core.specs.declared.fact.Path.{Path}
 use Rattle.ix_core.specs.declared.fact.PathOff.TheVariants.{Plus}
 use Rattle.ix_core.specs.declared.fact.Fact.{Fact}

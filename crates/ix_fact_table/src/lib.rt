@@ -33,8 +33,5 @@ pub use apart::{are_apart, are_proper};
 pub use beside::{are_plain, more_beside};
 pub use closing::more_that_follows;
 pub use fact_table::FactTable;
-pub use ix_fact_paths::{
-    assigned_path, is_of_path, is_of_target, names_path, rounded_facts, some_name_path,
-};
 pub use order::compare_facts;
 pub use row::Row;

@@ -2,10 +2,10 @@
 use Rattle.std.specs.Prelude.{◌≡◌, false, ℤ, pos, negsuc, ◌≤ℤ◌, ◌<ℤ◌, int_le, Option, Some, None, IfSome, IsSomeAnd}
 use Rattle.std.proofs.Common.{arith}
 use Rattle.std.proofs.lemmas.Int.{ints}
-use Rattle.ix_core.specs.Arith.{Arith}
-use Rattle.ix_core.specs.Arith.TheVariants.{Add, Sub, Mul, Div, Rem, And, Or, Xor, Shl, Shr, Ushr}
-use Rattle.ix_core.specs.Ints.{IsInt}
-use Rattle.ix_core.specs.Arithmetic.{exact_of}
+use Rattle.ix_num.specs.declared.arith.Arith.{Arith}
+use Rattle.ix_num.specs.declared.arith.Arith.TheVariants.{Add, Sub, Mul, Div, Rem, And, Or, Xor, Shl, Shr, Ushr}
+use Rattle.ix_num.specs.Ints.{IsInt}
+use Rattle.ix_num.specs.Arithmetic.{exact_of}
 use Rattle.ix_tables.specs.declared.low.Low.{Low}
 use Rattle.ix_tables.specs.declared.low.Low.TheVariants.{Unknown, MinusOne, Zero, One}
 use Rattle.ix_tables.specs.LowClasses.{AtLeast, LowBelow, class_of, next_stronger}

@@ -3,10 +3,10 @@ use Rattle.std.specs.Prelude.{◌≡◌, Bool, true, false, ◌&&◌, ℤ, pos, 
 use Rattle.std.proofs.Common.{arith, inl, inr, sym, subst, ⊎_elim}
 use Rattle.std.proofs.lemmas.Bool.{and_parts}
 use Rattle.std.proofs.lemmas.Int.{ints}
-use Rattle.ix_core.specs.Ints.{least_int, greatest_int}
-use Rattle.ix_core.specs.Arith.{Arith}
-use Rattle.ix_core.specs.Arith.TheVariants.{Add, Sub, Mul, Div, Rem, And, Or, Xor, Shl, Shr, Ushr}
-use Rattle.ix_core.specs.Interval.{Interval}
+use Rattle.ix_num.specs.Ints.{least_int, greatest_int}
+use Rattle.ix_num.specs.declared.arith.Arith.{Arith}
+use Rattle.ix_num.specs.declared.arith.Arith.TheVariants.{Add, Sub, Mul, Div, Rem, And, Or, Xor, Shl, Shr, Ushr}
+use Rattle.ix_num.specs.declared.interval.Interval.{Interval}
 use Rattle.ix_tables.specs.declared.low.Low.{Low as Class}
 use Rattle.ix_tables.specs.declared.low.Low.TheVariants as class
 use Rattle.ix_tables.specs.LowClasses.{class_of}

@@ -5,15 +5,15 @@ use Rattle.std.specs.Int.{int_min}
 use Rattle.std.proofs.Common.{arith, ap, ◌∙◌}
 use Rattle.std.proofs.lemmas.Bool.{and_parts, and_from}
 use Rattle.std.proofs.lemmas.Int.{ints, clamps}
-use Rattle.ix_core.specs.Arith.{Arith}
-use Rattle.ix_core.specs.Arith.TheVariants.{Add, Sub, Mul, Div, Rem, And, Or, Xor, Shl, Shr, Ushr}
-use Rattle.ix_core.specs.Interval.{Interval}
-use Rattle.ix_core.specs.Ints.{least_int, greatest_int}
-use Rattle.ix_core.specs.Arithmetic.{exact_of, flip_of}
-use Rattle.ix_core.specs.Intervals.{Includes, IsWithin, interval, normal, all_ints}
-use Rattle.ix_core.specs.OpRanges.{op_range}
-use Rattle.ix_tables.specs.Members.{within_by_ends, normal_in, normal_out, low_end, high_end}
-use Rattle.ix_tables.specs.OpRangeLaws.{op_range_includes, op_range_monotone, wrap_of_int}
+use Rattle.ix_num.specs.declared.arith.Arith.{Arith}
+use Rattle.ix_num.specs.declared.arith.Arith.TheVariants.{Add, Sub, Mul, Div, Rem, And, Or, Xor, Shl, Shr, Ushr}
+use Rattle.ix_num.specs.declared.interval.Interval.{Interval}
+use Rattle.ix_num.specs.Ints.{least_int, greatest_int}
+use Rattle.ix_num.specs.Arithmetic.{exact_of, flip_of}
+use Rattle.ix_num.specs.Intervals.{Includes, IsWithin, interval, normal, all_ints}
+use Rattle.ix_num.specs.OpRanges.{op_range}
+use Rattle.ix_num.proofs.Members.{within_by_ends, normal_in, normal_out, low_end, high_end}
+use Rattle.ix_num.proofs.OpRangeLaws.{op_range_includes, op_range_monotone, wrap_of_int}
 use Rattle.ix_core.specs.declared.fact.Path.{Path}
 use Rattle.ix_core.specs.declared.fact.PathOff.TheVariants.{Plus, Minus}
 use Rattle.ix_core.specs.declared.fact.Fact.{Fact}

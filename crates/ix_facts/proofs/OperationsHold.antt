@@ -4,11 +4,11 @@ use Rattle.std.specs.Int.{int_shr}
 use Rattle.std.proofs.Common.{arith, sym, ◌∙◌, subst}
 use Rattle.std.proofs.lemmas.Bool.{and_parts}
 use Rattle.std.proofs.lemmas.Int.{ints}
-use Rattle.ix_core.specs.Arith.{Arith}
-use Rattle.ix_core.specs.Arith.TheVariants.{Add, Sub, Mul, Div, Rem, And, Or, Xor, Shl, Shr, Ushr}
-use Rattle.ix_core.specs.Ints.{IsInt}
-use Rattle.ix_core.specs.Arithmetic.{exact_of, shift_distance, flip_of}
-use Rattle.ix_tables.specs.OpRangeLaws.{wrap_of_int}
+use Rattle.ix_num.specs.declared.arith.Arith.{Arith}
+use Rattle.ix_num.specs.declared.arith.Arith.TheVariants.{Add, Sub, Mul, Div, Rem, And, Or, Xor, Shl, Shr, Ushr}
+use Rattle.ix_num.specs.Ints.{IsInt}
+use Rattle.ix_num.specs.Arithmetic.{exact_of, shift_distance, flip_of}
+use Rattle.ix_num.proofs.OpRangeLaws.{wrap_of_int}
 use Rattle.ix_tables.specs.declared.low.Low.TheVariants as class
 use Rattle.ix_tables.specs.LowClasses.{AtLeast, class_of}
 use Rattle.ix_tables.proofs.AnswersHold.{low_of_sound}
@@ -170,7 +170,7 @@ module _ (w : Numbers) (facts : List Fact) (h : AllHold facts w) where
     unary_holds unary c =
         let exact = Exact.exact_unary facts unary y in
         let i : unary_of unary (w.int y) ≡ c.result = cc (c.is) in
-        let p = subst (Rattle.ix_core.specs.Intervals.Includes exact) i (unary_includes w facts h unary y) in
+        let p = subst (Rattle.ix_num.specs.Intervals.Includes exact) i (unary_includes w facts h unary y) in
         all_hold_app w (range_facts t exact) (low_facts profile t exact class.Unknown ++ after.unary_rule facts unary t y)
         (range_facts_hold w profile t exact (Some (unary_of unary (w.int y))) c p)
         (all_hold_app w (low_facts profile t exact class.Unknown) (after.unary_rule facts unary t y)

@@ -1,7 +1,7 @@
 -- Stronger facts derive stronger facts of each operation, unless its exact interval is empty: then no step of it goes on.
 use Rattle.std.specs.Prelude.{◌≡◌, true, pos, ◌≤ℤ◌, List, []}
-use Rattle.ix_core.specs.Arith.{Arith}
-use Rattle.ix_core.specs.Arith.TheVariants.{Add, Sub, Mul, Div, Rem, And, Or, Xor, Shl, Shr, Ushr}
+use Rattle.ix_num.specs.declared.arith.Arith.{Arith}
+use Rattle.ix_num.specs.declared.arith.Arith.TheVariants.{Add, Sub, Mul, Div, Rem, And, Or, Xor, Shl, Shr, Ushr}
 use Rattle.ix_tables.specs.declared.low.Low.TheVariants as class
 use Rattle.ix_tables.specs.LowClasses.{class_of}
 use Rattle.ix_core.specs.declared.fact.Path.{Path}

@@ -3,7 +3,7 @@ use Rattle.std.specs.Prelude.{◌≡◌, ◌⊎◌, ℕ, ℤ, pos, ◌≤ℤ◌,
 use Rattle.std.specs.Int.{int_min, int_max}
 use Rattle.std.proofs.Common.{arith, inl, inr, sym, ◌∙◌, subst, ⊎_elim}
 use Rattle.std.proofs.lemmas.Int.{ints, clamps}
-use Rattle.ix_core.specs.Ints.{greatest_int, IsInt}
+use Rattle.ix_num.specs.Ints.{greatest_int, IsInt}
 use Rattle.ix_core.specs.declared.fact.Path.{Path}
 use Rattle.ix_core.specs.declared.fact.PathOff.TheVariants.{Plus}
 use Rattle.ix_core.specs.declared.fact.Fact.{Fact}

@@ -1,7 +1,7 @@
 -- What operations give, computed by the definitions. Each rule decides a row: without it, or weaker, the row is another. The expected facts come
 -- from an independent checker.
 use Rattle.std.specs.Prelude.{◌≡◌, true, pos, negsuc, List, [], ◌∷◌, refl}
-use Rattle.ix_core.specs.Arith.TheVariants as arith
+use Rattle.ix_num.specs.declared.arith.Arith.TheVariants as arith
 use Rattle.ix_core.specs.declared.claim.Base.TheVariants as base
 use Rattle.ix_core.specs.declared.claim.Claim.TheVariants as element
 use Rattle.ix_core.specs.declared.claim.Type_.TheVariants as type

@@ -1,6 +1,6 @@
 -- What tests tell, computed by the definitions. The expected facts come from an independent checker.
 use Rattle.std.specs.Prelude.{◌≡◌, true, pos, negsuc, List, [], ◌∷◌, refl}
-use Rattle.ix_core.specs.Rel.TheVariants as rel
+use Rattle.ix_num.specs.declared.rel.Rel.TheVariants as rel
 use Rattle.ix_facts.specs.AfterTest.{when_true, when_false}
 use Rattle.ix_facts.proofs.SameFacts.{int, ints, same_facts, told}
 use Rattle.ix_core.specs.declared.fact.Path.TheVariants.{Slot, FieldOf}

@@ -3,9 +3,9 @@ use Rattle.std.specs.Prelude.{◌≡◌, true, ◌&&◌, ℤ, pos, negsuc, ◌+�
 use Rattle.std.proofs.Common.{arith, sym, ◌∙◌, subst}
 use Rattle.std.proofs.lemmas.Bool.{and_parts, false≢true}
 use Rattle.std.proofs.lemmas.Int.{ints, clamps}
-use Rattle.ix_core.specs.Interval.{Interval}
-use Rattle.ix_core.specs.Ints.{IsInt}
-use Rattle.ix_core.specs.Intervals.{Includes}
+use Rattle.ix_num.specs.declared.interval.Interval.{Interval}
+use Rattle.ix_num.specs.Ints.{IsInt}
+use Rattle.ix_num.specs.Intervals.{Includes}
 use Rattle.ix_tables.specs.declared.low.Low.{Low as Class}
 use Rattle.ix_tables.specs.LowClasses.{AtLeast, class_of}
 use Rattle.ix_core.specs.declared.fact.Path.{Path}
@@ -37,7 +37,7 @@ module _ (w : Numbers) (profile : Profile) (t : Path) (exact : Interval) (result
   value_in_int h =
       let b = in_int_from exact h in
       let int : IsInt c.result = record { from = omega (arith, ints, p.from); to = omega (arith, ints, p.to) } in
-      c.kept ∙ Rattle.ix_tables.specs.OpRangeLaws.wrap_of_int c.result int
+      c.kept ∙ Rattle.ix_num.proofs.OpRangeLaws.wrap_of_int c.result int
 
   pub range_facts_hold : AllHold (range_facts t exact) w
   range_facts_hold = if_so_holds w (lies_in_int exact) (Rng t exact.lo exact.hi ∷ []) (λ h. let e = value_in_int h in ((omega (arith, ints, p.from), omega (arith, ints, p.to)), tt))

@@ -4,9 +4,9 @@ use Rattle.std.specs.Int.{int_min, int_max}
 use Rattle.std.proofs.Common.{arith}
 use Rattle.std.proofs.lemmas.Bool.{and_parts, and_from, false≢true}
 use Rattle.std.proofs.lemmas.Int.{ints, clamps}
-use Rattle.ix_core.specs.Interval.{Interval}
-use Rattle.ix_core.specs.Ints.{greatest_int}
-use Rattle.ix_core.specs.Intervals.{IsWithin}
+use Rattle.ix_num.specs.declared.interval.Interval.{Interval}
+use Rattle.ix_num.specs.Ints.{greatest_int}
+use Rattle.ix_num.specs.Intervals.{IsWithin}
 use Rattle.ix_tables.specs.declared.low.Low.{Low as Class}
 use Rattle.ix_tables.specs.LowClasses.{class_of}
 use Rattle.ix_core.specs.declared.claim.Type_.{Type_}

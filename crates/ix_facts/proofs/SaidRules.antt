@@ -2,9 +2,9 @@
 use Rattle.std.specs.Prelude.{◌≡◌, ◌⊎◌, ℕ, Bool, true, false, ℤ, pos, ◌≤ℤ◌, neg_ℤ, List, [], ◌∷◌, ◌++◌, Option, Some, None, refl}
 use Rattle.std.proofs.Common.{arith, inl, inr, ap, sym, ◌∙◌, subst, ⊎_elim}
 use Rattle.std.proofs.lemmas.Int.{ints}
-use Rattle.ix_core.specs.Arithmetic.{flip_of}
-use Rattle.ix_core.specs.Interval.{Interval}
-use Rattle.ix_core.specs.Intervals.{interval, normal, no_numbers, is_empty}
+use Rattle.ix_num.specs.Arithmetic.{flip_of}
+use Rattle.ix_num.specs.declared.interval.Interval.{Interval}
+use Rattle.ix_num.specs.Intervals.{interval, normal, no_numbers, is_empty}
 use Rattle.ix_core.specs.declared.claim.Type_.{Type_}
 use Rattle.ix_core.specs.declared.fact.Path.{Path}
 use Rattle.ix_core.specs.declared.fact.Path.TheVariants.{Slot}

@@ -3,7 +3,7 @@ use Rattle.std.specs.Prelude.{◌≡◌, true, refl, pos, List, [], ◌∷◌, �
 use Rattle.std.proofs.Common.{arith, inl, inr, ap, sym, ◌∙◌, subst, ⊎_elim}
 use Rattle.std.proofs.lemmas.Bool.{false≢true}
 use Rattle.std.proofs.lemmas.Int.{ints, clamps}
-use Rattle.ix_core.specs.Ints.{least_int, greatest_int}
+use Rattle.ix_num.specs.Ints.{least_int, greatest_int}
 use Rattle.ix_core.specs.declared.fact.PathOff.TheVariants.{Nothing, Plus, Minus}
 use Rattle.ix_core.specs.declared.claim.Type_.{Type_}
 use Rattle.ix_core.specs.declared.fact.Path.{Path}

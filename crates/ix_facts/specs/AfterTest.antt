@@ -1,9 +1,9 @@
 -- What the outcome of a test gives. Checker Framework manual, Index Checker, "Upper bounds" and "Lower bounds": a comparison refines both sides;
 -- the rules along stored differences are this project's own.
 use Rattle.std.specs.Prelude.{◌≡◌, ◌≢◌, Bool, true, false, not, ◌||◌, ℤ, pos, negsuc, ◌+ℤ◌, ◌-ℤ◌, ◌<ℤ◌, int_le, List, [], ◌∷◌, ◌++◌}
-use Rattle.ix_core.specs.Rel.{Rel}
-use Rattle.ix_core.specs.Rel.TheVariants.{Lt, Le, Gt, Ge, Eq, Ne}
-use Rattle.ix_core.specs.Ints.{least_int, greatest_int}
+use Rattle.ix_num.specs.declared.rel.Rel.{Rel}
+use Rattle.ix_num.specs.declared.rel.Rel.TheVariants.{Lt, Le, Gt, Ge, Eq, Ne}
+use Rattle.ix_num.specs.Ints.{least_int, greatest_int}
 use Rattle.ix_core.specs.declared.claim.Type_.{Type_}
 use Rattle.ix_core.specs.declared.fact.Path.{Path}
 use Rattle.ix_core.specs.declared.fact.PathOff.TheVariants.{Nothing, Plus}

@@ -1,7 +1,7 @@
 -- What a claim that is assumed adds, and which claims facts prove. Checker Framework manual, Index Checker and Constant Value Checker: the
 -- annotation of a declared variable is assumed of what was checked against it.
 use Rattle.std.specs.Prelude.{◌≡◌, Bool, false, not, ◌&&◌, ◌||◌, pos, negsuc, ◌+ℤ◌, ◌-ℤ◌, ◌≤ℤ◌, ◌<ℤ◌, int_le, List, [], ◌∷◌}
-use Rattle.ix_core.specs.Ints.{least_int, greatest_int}
+use Rattle.ix_num.specs.Ints.{least_int, greatest_int}
 use Rattle.ix_core.specs.declared.fact.Path.{Path}
 use Rattle.ix_core.specs.declared.fact.PathOff.TheVariants.{Nothing}
 use Rattle.ix_core.specs.declared.fact.PathClaim.{PathClaim}

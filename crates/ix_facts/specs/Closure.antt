@@ -1,7 +1,7 @@
 -- What follows from facts, and closed lists of facts. The closing rules are this project's own.
 use Rattle.std.specs.Prelude.{◌≡◌, false, ℤ, pos, negsuc, ◌≤ℤ◌, ◌<ℤ◌, int_lt, cond, List, [], ◌∷◌, ◌++◌, ◌⊎◌}
 use Rattle.std.specs.Int.{int_min, int_max}
-use Rattle.ix_core.specs.Ints.{least_int, greatest_int}
+use Rattle.ix_num.specs.Ints.{least_int, greatest_int}
 use Rattle.ix_core.specs.declared.fact.Path.{Path}
 use Rattle.ix_core.specs.declared.fact.PathOff.TheVariants.{Plus}
 use Rattle.ix_core.specs.declared.fact.Fact.{Fact}

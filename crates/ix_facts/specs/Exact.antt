@@ -2,12 +2,12 @@
 use Rattle.std.specs.Prelude.{Bool, true, false, ◌&&◌, ℤ, pos, negsuc, ◌-ℤ◌, int_le, List, [], ◌∷◌, ◌++◌, Option, Some, None}
 use Rattle.std.specs.Option.{option_map}
 use Rattle.std.specs.Int.{int_min}
-use Rattle.ix_core.specs.Arith.{Arith}
-use Rattle.ix_core.specs.Arith.TheVariants.{Add, Sub}
-use Rattle.ix_core.specs.Interval.{Interval}
-use Rattle.ix_core.specs.Ints.{least_int, greatest_int}
-use Rattle.ix_core.specs.Intervals.{interval, normal, neg_of, not_of}
-use Rattle.ix_core.specs.OpRanges.{op_range}
+use Rattle.ix_num.specs.declared.arith.Arith.{Arith}
+use Rattle.ix_num.specs.declared.arith.Arith.TheVariants.{Add, Sub}
+use Rattle.ix_num.specs.declared.interval.Interval.{Interval}
+use Rattle.ix_num.specs.Ints.{least_int, greatest_int}
+use Rattle.ix_num.specs.Intervals.{interval, normal, neg_of, not_of}
+use Rattle.ix_num.specs.OpRanges.{op_range}
 use Rattle.ix_tables.specs.declared.low.Low.{Low as Class}
 use Rattle.ix_tables.specs.declared.low.Low.TheVariants as class
 use Rattle.ix_tables.specs.LowClasses.{class_of}

@@ -25,22 +25,5 @@ pub mod OnPaths
 -- Passed on from ix_core.
 pub use Rattle.ix_core.specs.declared.fact.Fact
 pub use Rattle.ix_core.specs.declared.fact.Path
-pub use Rattle.ix_core.specs.Ints
-pub use Rattle.ix_core.proofs.Cases
-pub use Rattle.ix_core.specs.declared.fact.PathOff
-pub use Rattle.ix_core.specs.Arith
-pub use Rattle.ix_core.specs.Interval
-pub use Rattle.ix_core.specs.Intervals
-pub use Rattle.ix_core.specs.OpRanges
-pub use Rattle.ix_core.specs.declared.claim.Type_
-pub use Rattle.ix_core.specs.declared.fact.Profile
-pub use Rattle.ix_core.specs.declared.op.Literal
-pub use Rattle.ix_core.specs.declared.op.OpKind
-pub use Rattle.ix_core.specs.declared.op.UnaryNum
 -- Passed on from ix_tables.
 pub use Rattle.ix_tables.specs.declared.low.Low
--- Passed on from ix_lattice.
-pub use Rattle.ix_lattice.specs.FactMap
-pub use Rattle.ix_lattice.specs.Lattice
-pub use Rattle.ix_lattice.specs.FactMapLaws
-pub use Rattle.ix_lattice.specs.LookUps

@@ -95,7 +95,7 @@ abbrev mutual
   condition_numbers program (Either asked other) = condition_numbers program asked ++ condition_numbers program other
   condition_numbers program (Opposite asked) = condition_numbers program asked
 
-abbrev pub locals_of : List (Variable × Rattle.ix_core.specs.Span.Span) → List Variable
+abbrev pub locals_of : List (Variable × Rattle.ix_text.specs.declared.span.Span.Span) → List Variable
 locals_of [] = []
 locals_of (first ∷ locals) = first.0 ∷ locals_of locals
 

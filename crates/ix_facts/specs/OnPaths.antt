@@ -1,8 +1,8 @@
 -- Rules that read no fact but those that name a path give the same of the facts on it as of all facts.
 use Rattle.std.specs.Prelude.{◌≡◌, Bool, true, false, ℤ, Option, None, List, [], ◌∷◌, ◌++◌, filter, refl}
 use Rattle.std.proofs.Common.{ap, sym, ◌∙◌}
-use Rattle.ix_facts.specs.Path.{Path}
-use Rattle.ix_facts.specs.Fact.{Fact}
+use Rattle.ix_core.specs.declared.fact.Path.{Path}
+use Rattle.ix_core.specs.declared.fact.Fact.{Fact}
 use Rattle.ix_facts.specs.Bounds.{is_path, best, best_of}
 use Rattle.ix_facts.specs.Exact.{each}
 use Rattle.ix_facts.specs.Forget.{names}

@@ -2,7 +2,7 @@
 -- widening is Cousot and Cousot's, POPL 1977, section 9.
 use Rattle.std.specs.Prelude.{◌≡◌, ◌⊎◌, ℕ, nat_lt, Bool, not, ℤ, pos, negsuc, ◌+ℤ◌, ◌-ℤ◌, ◌≤ℤ◌, ◌<ℤ◌, int_le, List, [], ◌∷◌, Option, Some, None}
 use Rattle.std.specs.Int.{int_min, int_max}
-use Rattle.ix_core.specs.Ints.{least_int, greatest_int, IsInt}
+use Rattle.ix_num.specs.Ints.{least_int, greatest_int, IsInt}
 use Rattle.ix_core.specs.declared.fact.Path.{Path}
 use Rattle.ix_core.specs.declared.fact.Path.TheVariants.{Slot, FieldOf}
 use Rattle.ix_core.specs.declared.fact.Fact.{Fact}

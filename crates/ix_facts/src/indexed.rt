@@ -1,8 +1,8 @@
 //! Facts by the paths that they name.
 
 ghost use Rattle.std.specs.Prelude.{◌≡◌, List, filter};
-ghost use Rattle.ix_facts.specs.Path.{Path};
-ghost use Rattle.ix_facts.specs.Fact.{Fact};
+ghost use Rattle.ix_core.specs.declared.fact.Path.{Path};
+ghost use Rattle.ix_core.specs.declared.fact.Fact.{Fact};
 ghost use Rattle.ix_facts.specs.Bounds.{is_path};
 ghost use Rattle.ix_facts.specs.Facts.{in_orders};
 ghost use Rattle.ix_facts.specs.Forget.{names};

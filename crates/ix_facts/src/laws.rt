@@ -2,8 +2,8 @@
 //! monotone, that stronger facts derive no less.
 
 ghost use Rattle.std.specs.Prelude.{◌≡◌, ◌⊎◌, Bool, true, false, ℕ, ℤ, ◌≤ℤ◌, List, Some, None};
-ghost use Rattle.ix_core.specs.Comparisons.{Compares};
-ghost use Rattle.ix_core.specs.Rel.{Rel};
+ghost use Rattle.ix_num.specs.Comparisons.{Compares};
+ghost use Rattle.ix_num.specs.declared.rel.Rel.{Rel};
 ghost use Rattle.ix_core.specs.declared.claim.Type_.{Type_};
 ghost use Rattle.ix_core.specs.declared.fact.Path.{Path};
 ghost use Rattle.ix_core.specs.declared.fact.PathOff.{PathOff};

@@ -20,11 +20,8 @@ mod types;
 
 pub use conditions::{Blocks, condition_laws};
 pub use indexed::Indexed;
-pub use ix_core::{
-    Base, Claim, Fact, List, Literal, OpKind, Path, PathClaim, PathOff, Profile, Type_, UnaryNum,
-};
-pub use ix_lattice::Lattice;
-pub use ix_tables::{Arith, Interval, Low, Rel, low_table};
+pub use ix_core::{Fact, Path, PathOff, Profile, UnaryNum};
+pub use ix_tables::{Low, low_table};
 pub use kind::{Kind, is_of_kind, kind_of_fact};
 pub use know::Know;
 pub use landmarks::Landmarks;

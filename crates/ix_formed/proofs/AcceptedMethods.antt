@@ -24,7 +24,7 @@ use Rattle.ix_tree.specs.declared.decl.Member.{Member}
 use Rattle.ix_tree.specs.declared.decl.Member.TheVariants as member
 use Rattle.ix_tree.specs.declared.decl.MethodDecl.{MethodDecl}
 use Rattle.ix_tree.specs.declared.decl.Unit.{Unit as Source}
-use Rattle.ix_plain.specs.Target.TheVariants as on
+use Rattle.ix_annot.specs.declared.scope.Target.TheVariants as on
 use Rattle.ix_meaning.specs.declared.members.Signature.{Signature}
 use Rattle.ix_meaning.specs.Annotated.{based, class_use, given, names_nothing, is_int_tree, of_result}
 use Rattle.ix_meaning.specs.Classes as classes

@@ -18,30 +18,30 @@ use Rattle.ix_core.specs.Posts.{is_answer, is_conditional, same_post}
 use Rattle.ix_core.specs.SameClaims.{distinct, same_claim}
 use Rattle.ix_tree.specs.declared.annot.Annot.{Annot}
 use Rattle.ix_tree.specs.declared.annot.AnnotArg.{AnnotArg}
-use Rattle.ix_plain.specs.Naming.{Naming}
-use Rattle.ix_plain.specs.Offset.{Offset}
-use Rattle.ix_plain.specs.Offset.TheVariants.{Constant, Plus, Minus}
-use Rattle.ix_plain.specs.Targets.{Targets}
-use Rattle.ix_plain.specs.Targets.TheVariants.{IntOrElement, Int, Array, Callable, Method, BooleanMethod}
-use Rattle.ix_plain.specs.EachArray.{EachArray}
-use Rattle.ix_plain.specs.EachArray.TheVariants.{Below, SameLength, SearchResult, NotFound}
-use Rattle.ix_plain.specs.Says.{Says}
-use Rattle.ix_plain.specs.Says.TheVariants.{Nothing, EffectFree, AtLeast, Between, LengthAtLeast, Arrays, Offsets, Bounds, Ensures, EnsuresIf}
-use Rattle.ix_plain.specs.Written.{Written}
-use Rattle.ix_plain.specs.Written.TheVariants.{OfArray, Upper, Less}
-use Rattle.ix_plain.specs.Plan.{Plan}
-use Rattle.ix_plain.specs.Promise.{Promise}
-use Rattle.ix_plain.specs.Target.{Target}
-use Rattle.ix_plain.specs.Target.TheVariants as on
-use Rattle.ix_plain.specs.Holds.TheVariants as holds
-use Rattle.ix_plain.specs.Claims.{Claims}
-use Rattle.ix_plain.specs.AnnotError.{AnnotError}
-use Rattle.ix_plain.specs.AnnotError.TheVariants.{WrongTarget, InheritedName}
-use Rattle.ix_plain.specs.Named.{Names, named}
-use Rattle.ix_plain.specs.Table.{table, row_in, row_named, fits, argument}
-use Rattle.ix_plain.specs.Arguments.{plan, plan_of, plan_with, one_claim, lowest, range, range_of, length_from, length_of, written, upper, first_offset, all_written, matched, claims_written, listed_in, truth, promised_on, promised, promised_if, with_others, texts, texts_or_none, int_or, are_taken, greatest_int, least_int}
-use Rattle.ix_plain.specs.Texts.{array_text, bound_text}
-use Rattle.ix_plain.specs.Expansion.{expanded, claim_of, claims_of, array_claim, upper_claim, offset_named, given, posts_on, posts_of_first, posts_of, or_bad_name, with_claims, with_plan, with_row, is_field, names_inherited, may_change, offset_may_change}
+use Rattle.ix_annot.specs.declared.texts.Naming.{Naming}
+use Rattle.ix_annot.specs.declared.texts.Offset.{Offset}
+use Rattle.ix_annot.specs.declared.texts.Offset.TheVariants.{Constant, Plus, Minus}
+use Rattle.ix_annot.specs.declared.table.Targets.{Targets}
+use Rattle.ix_annot.specs.declared.table.Targets.TheVariants.{IntOrElement, Int, Array, Callable, Method, BooleanMethod}
+use Rattle.ix_annot.specs.declared.table.EachArray.{EachArray}
+use Rattle.ix_annot.specs.declared.table.EachArray.TheVariants.{Below, SameLength, SearchResult, NotFound}
+use Rattle.ix_annot.specs.declared.table.Says.{Says}
+use Rattle.ix_annot.specs.declared.table.Says.TheVariants.{Nothing, EffectFree, AtLeast, Between, LengthAtLeast, Arrays, Offsets, Bounds, Ensures, EnsuresIf}
+use Rattle.ix_annot.specs.declared.arguments.Written.{Written}
+use Rattle.ix_annot.specs.declared.arguments.Written.TheVariants.{OfArray, Upper, Less}
+use Rattle.ix_annot.specs.declared.arguments.Plan.{Plan}
+use Rattle.ix_annot.specs.declared.arguments.Promise.{Promise}
+use Rattle.ix_annot.specs.declared.scope.Target.{Target}
+use Rattle.ix_annot.specs.declared.scope.Target.TheVariants as on
+use Rattle.ix_annot.specs.declared.scope.Holds.TheVariants as holds
+use Rattle.ix_annot.specs.declared.scope.Claims.{Claims}
+use Rattle.ix_annot.specs.declared.scope.AnnotError.{AnnotError}
+use Rattle.ix_annot.specs.declared.scope.AnnotError.TheVariants.{WrongTarget, InheritedName}
+use Rattle.ix_annot.specs.Named.{Names, named}
+use Rattle.ix_annot.specs.Table.{table, row_in, row_named, fits, argument}
+use Rattle.ix_annot.specs.Arguments.{plan, plan_of, plan_with, one_claim, lowest, range, range_of, length_from, length_of, written, upper, first_offset, all_written, matched, claims_written, listed_in, truth, promised_on, promised, promised_if, with_others, texts, texts_or_none, int_or, are_taken, greatest_int, least_int}
+use Rattle.ix_annot.specs.Texts.{array_text, bound_text}
+use Rattle.ix_annot.specs.Expansion.{expanded, claim_of, claims_of, array_claim, upper_claim, offset_named, given, posts_on, posts_of_first, posts_of, or_bad_name, with_claims, with_plan, with_row, is_field, names_inherited, may_change, offset_may_change}
 use Rattle.ix_meaning.specs.Annotated.{claims_from, posts_from, distinct_posts}
 use Rattle.ix_formed.specs.Additions.{AllOf}
 use Rattle.ix_formed.proofs.NumberLists.{all_joined, all_so, both_true}

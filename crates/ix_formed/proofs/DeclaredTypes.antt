@@ -17,10 +17,10 @@ use Rattle.ix_tree.specs.declared.annot.Annot.{Annot}
 use Rattle.ix_tree.specs.declared.annot.BaseTree.{BaseTree}
 use Rattle.ix_tree.specs.declared.annot.BaseTree.TheVariants as tree
 use Rattle.ix_tree.specs.declared.annot.TypeTree.{TypeTree}
-use Rattle.ix_plain.specs.Target.{Target}
-use Rattle.ix_plain.specs.Target.TheVariants as on
-use Rattle.ix_plain.specs.Named.{Names}
-use Rattle.ix_plain.specs.Expansion.{expanded}
+use Rattle.ix_annot.specs.declared.scope.Target.{Target}
+use Rattle.ix_annot.specs.declared.scope.Target.TheVariants as on
+use Rattle.ix_annot.specs.Named.{Names}
+use Rattle.ix_annot.specs.Expansion.{expanded}
 use Rattle.ix_meaning.specs.Annotated.{given, claims_from, aimed, names_nothing, is_int_tree, target_before, is_element, class_use, based, written, unless, element_claims, variable}
 use Rattle.ix_meaning.specs.Types.{shaped}
 use Rattle.ix_formed.specs.Additions.{AllOf}

@@ -20,10 +20,10 @@ use Rattle.ix_tree.specs.declared.expr.ExprKind.{ExprKind, ExprKind-F, map-ExprK
 use Rattle.ix_tree.specs.declared.expr.Init.{Init, Init-F, ind-Init, map-Init, roll-Init, fold-roll-Init}
 use Rattle.ix_tree.specs.Parts as parts
 use Rattle.ix_tree.specs.Parts.{Part, expression, elsewhere, in_type, together, listed, type_parts, base_parts, expr_parts, init_parts}
-use Rattle.ix_plain.specs.Named.{Names}
-use Rattle.ix_plain.specs.Claims.{Claims}
-use Rattle.ix_plain.specs.AnnotError.{AnnotError}
-use Rattle.ix_plain.specs.Expansion.{expanded}
+use Rattle.ix_annot.specs.Named.{Names}
+use Rattle.ix_annot.specs.declared.scope.Claims.{Claims}
+use Rattle.ix_annot.specs.declared.scope.AnnotError.{AnnotError}
+use Rattle.ix_annot.specs.Expansion.{expanded}
 use Rattle.std.specs.Prelude.{Result, Ok, Err}
 use Rattle.ix_meaning.specs.declared.members.Field.{Field}
 use Rattle.ix_meaning.specs.declared.note.Meaning.{Meaning}

@@ -17,7 +17,7 @@ use Rattle.ix_tree.specs.declared.decl.LocalDecl.{LocalDecl}
 use Rattle.ix_tree.specs.declared.decl.MethodDecl.{MethodDecl}
 use Rattle.ix_tree.specs.declared.decl.Unit.{Unit as Source}
 use Rattle.ix_tree.specs.Parts.{unit_parts}
-use Rattle.ix_plain.specs.Named.{is_own, what_holds}
+use Rattle.ix_annot.specs.Named.{is_own, what_holds}
 use Rattle.ix_meaning.specs.declared.members.Signature.{Signature}
 use Rattle.ix_meaning.specs.Annotated.{Declaration, variable, of_result}
 use Rattle.ix_meaning.specs.Classes as classes

@@ -31,10 +31,10 @@ use Rattle.ix_tree.specs.declared.annot.Annot.{Annot}
 use Rattle.ix_tree.specs.declared.decl.MethodDecl.{MethodDecl}
 use Rattle.ix_tree.specs.declared.decl.Unit.{Unit as Source}
 use Rattle.ix_tree.specs.Parts.{unit_parts}
-use Rattle.ix_plain.specs.Target.{Target}
-use Rattle.ix_plain.specs.Target.TheVariants as on
-use Rattle.ix_plain.specs.Named.{Names}
-use Rattle.ix_plain.specs.Expansion.{expanded, is_field}
+use Rattle.ix_annot.specs.declared.scope.Target.{Target}
+use Rattle.ix_annot.specs.declared.scope.Target.TheVariants as on
+use Rattle.ix_annot.specs.Named.{Names}
+use Rattle.ix_annot.specs.Expansion.{expanded, is_field}
 use Rattle.ix_meaning.specs.declared.members.Signature.{Signature}
 use Rattle.ix_meaning.specs.Annotated.{given, aimed, posts_from, distinct_posts, of_method}
 use Rattle.ix_meaning.specs.Classes as classes

@@ -13,12 +13,12 @@ use Rattle.ix_core.specs.Tables.{field_at}
 use Rattle.ix_core.specs.Types.{is_int_type, is_array_type}
 use Rattle.ix_core.proofs.Cases.{equal}
 use Rattle.ix_tree.specs.Parts.{Part}
-use Rattle.ix_plain.specs.Found.{Found}
-use Rattle.ix_plain.specs.Holds.TheVariants as holds
-use Rattle.ix_plain.specs.Naming.{Naming}
-use Rattle.ix_plain.specs.Naming.TheVariants.{Parameter, OfThis, Variable}
-use Rattle.ix_plain.specs.Expansion.{is_field, may_change}
-use Rattle.ix_plain.specs.Named.{or_else, what_holds, same_holding, is_own, fitting}
+use Rattle.ix_annot.specs.declared.scope.Found.{Found}
+use Rattle.ix_annot.specs.declared.scope.Holds.TheVariants as holds
+use Rattle.ix_annot.specs.declared.texts.Naming.{Naming}
+use Rattle.ix_annot.specs.declared.texts.Naming.TheVariants.{Parameter, OfThis, Variable}
+use Rattle.ix_annot.specs.Expansion.{is_field, may_change}
+use Rattle.ix_annot.specs.Named.{or_else, what_holds, same_holding, is_own, fitting}
 use Rattle.ix_meaning.specs.declared.members.Field.{Field}
 use Rattle.ix_meaning.specs.declared.note.Meaning.{Meaning}
 use Rattle.ix_meaning.specs.declared.note.Meaning.TheVariants.{Local, Param, FieldNamed, Constant, MethodNamed, ClassNamed, LengthOf}

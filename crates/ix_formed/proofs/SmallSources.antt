@@ -7,7 +7,7 @@ use Rattle.ix_tree.specs.declared.decl.LocalDecl.{LocalDecl}
 use Rattle.ix_tree.specs.declared.decl.Member.{Member}
 use Rattle.ix_tree.specs.declared.decl.Member.TheVariants as member
 use Rattle.ix_tree.specs.declared.decl.MethodDecl.{MethodDecl}
-use Rattle.ix_plain.specs.Named.{or_else}
+use Rattle.ix_annot.specs.Named.{or_else}
 use Rattle.ix_meaning.specs.declared.note.Which.{Which}
 use Rattle.ix_meaning.specs.declared.note.Which.TheVariants as which
 use Rattle.ix_meaning.specs.Limits.{limit, past_names, past_params, past_claims, class_names, method_names, param_names, all_methods, all_annots, most_classes, most_methods, most_params}

@@ -2,12 +2,12 @@
 use Rattle.std.proofs.Common.{◌≡◌, ◌≤◌, ℕ, ◌+◌, Bool, true, false, List, [], ◌∷◌, ◌++◌, map, Option, Some, None, refl, sym, subst, arith}
 use Rattle.std.specs.Prelude.{if◌then◌else◌, not, bytes_eq}
 use Rattle.ix_text.specs.declared.span.Span.{Span}
-use Rattle.ix_plain.specs.Claims.{Claims}
+use Rattle.ix_annot.specs.declared.scope.Claims.{Claims}
 use Rattle.ix_core.specs.declared.claim.Name.TheVariants as name
 use Rattle.ix_core.specs.declared.claim.Type_.{Type_}
-use Rattle.ix_plain.specs.Named.{Names}
-use Rattle.ix_plain.specs.Target.{Target}
-use Rattle.ix_plain.specs.Target.TheVariants as on
+use Rattle.ix_annot.specs.Named.{Names}
+use Rattle.ix_annot.specs.declared.scope.Target.{Target}
+use Rattle.ix_annot.specs.declared.scope.Target.TheVariants as on
 use Rattle.ix_tree.specs.declared.annot.Annot.{Annot}
 use Rattle.ix_tree.specs.declared.annot.Ident.{Ident}
 use Rattle.ix_tree.specs.declared.annot.TypeTree.{TypeTree}

@@ -6,5 +6,3 @@ mod EachText
 pub mod OneFinding
 pub mod SomeFinding
 pub mod FoundPrograms
--- Passed on from ix_source.
-pub use Rattle.ix_source.proofs.SafeSources

@@ -5,5 +5,5 @@ pub mod Opened
 pub mod Found
 pub mod Promise
 pub mod Findings
+
 -- What is passed on of what is asked of a program that is found.
-pub use Rattle.ix_core.specs.CodePlaces

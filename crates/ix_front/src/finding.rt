@@ -13,13 +13,15 @@ ghost use Rattle.ix_front.specs.Findings.{seen, IsPlaced, HasFormed};
 
 use ix_core::Program;
 use ix_formed::{lowered_is_few, lowered_locals_are_apart};
+use ix_grammar::error::ParseError;
 use ix_lexer::{LexError, Token, lex};
 use ix_meaning::{NameError, NameErrors};
-use ix_names::{Table, resolve};
+use ix_names::resolve;
 use ix_outside::MOST_BYTES;
-use ix_parser::{ParseError, parse};
+use ix_parser::parse;
 use ix_report::limit_name;
 use ix_source::{LowerError, lower_kept};
+use ix_symbols::Table;
 use ix_text::List;
 use ix_tree::Unit;
 use std::alloc::{AllocError, Global};

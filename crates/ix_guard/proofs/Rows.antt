@@ -5,7 +5,7 @@ use Rattle.ix_text.specs.declared.span.Span.{Span}
 use Rattle.ix_tree.specs.declared.stmt.StmtKind.{StmtKind-F}
 use Rattle.ix_core.specs.declared.error.Detail.TheVariants.{Plain}
 use Rattle.ix_core.specs.declared.error.Error.{Error}
-use Rattle.ix_symbols.specs.Meaning.TheVariants.{Local, Param}
+use Rattle.ix_meaning.specs.declared.note.Meaning.TheVariants.{Local, Param}
 use Rattle.ix_tree.specs.declared.expr.BinaryOp.TheVariants.{AndAlso, OrElse}
 use Rattle.ix_guard.specs.Accesses.{Access, Parts, operands}
 use Rattle.ix_guard.specs.GuardedAccesses.{guarded_of, kind_step}

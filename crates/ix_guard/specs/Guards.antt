@@ -9,7 +9,7 @@ use Rattle.ix_tree.specs.declared.expr.Expr.{Expr}
 use Rattle.ix_tree.specs.declared.stmt.Stmt.{Stmt, Stmt-F, fold-Stmt}
 use Rattle.ix_tree.specs.declared.stmt.StmtKind.{StmtKind-F}
 use Rattle.ix_core.specs.declared.error.Error.{Error}
-use Rattle.ix_symbols.specs.Resolved.{Names}
+use Rattle.ix_meaning.specs.Resolved.{Names}
 use Rattle.ix_guard.specs.declared.insertion.Insertion.{Insertion}
 use Rattle.ix_guard.specs.Tests.{Site, expression_tests, declaration_tests}
 

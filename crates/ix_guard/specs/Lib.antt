@@ -7,5 +7,3 @@ pub mod GuardedAccesses
 pub mod Trees
 pub mod Kept
 pub mod Shown
--- Passed on from ix_symbols.
-pub use Rattle.ix_symbols.specs.Resolved

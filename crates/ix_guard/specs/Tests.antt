@@ -6,10 +6,10 @@ use Rattle.ix_tree.specs.declared.annot.Ident.{Ident}
 use Rattle.ix_tree.specs.declared.decl.LocalDecl.{LocalDecl}
 use Rattle.ix_tree.specs.declared.expr.Expr.{Expr}
 use Rattle.ix_core.specs.declared.error.Error.{Error}
-use Rattle.ix_symbols.specs.Meaning.{Meaning}
-use Rattle.ix_symbols.specs.Meaning.TheVariants.{Local, Param}
-use Rattle.ix_symbols.specs.Listed.{same_span}
-use Rattle.ix_symbols.specs.Resolved.{Names}
+use Rattle.ix_meaning.specs.declared.note.Meaning.{Meaning}
+use Rattle.ix_meaning.specs.declared.note.Meaning.TheVariants.{Local, Param}
+use Rattle.ix_meaning.specs.Listed.{same_span}
+use Rattle.ix_meaning.specs.Resolved.{Names}
 use Rattle.ix_guard.specs.Accesses.{Access, Parts, parts_of, all_decl_parts}
 
 -- What is known of a source: what its names mean, and its errors.

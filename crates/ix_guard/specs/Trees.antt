@@ -17,7 +17,7 @@ use Rattle.ix_tree.specs.declared.stmt.Stmt.{Stmt, Stmt-F, fold-Stmt}
 use Rattle.ix_tree.specs.declared.stmt.StmtKind.{StmtKind, StmtKind-F}
 use Rattle.ix_tree.specs.declared.stmt.StmtKind.TheVariants as s
 use Rattle.ix_core.specs.declared.error.Error.{Error}
-use Rattle.ix_symbols.specs.Resolved.{Names}
+use Rattle.ix_meaning.specs.Resolved.{Names}
 use Rattle.ix_guard.specs.Accesses.{Access, Parts, parts_of, all_decl_parts}
 use Rattle.ix_guard.specs.Tests.{Site, Changes, Pair, pair_of, is_tested}
 

@@ -3,7 +3,7 @@
 ghost use Rattle.std.specs.Prelude.{◌≡◌, ◌||◌, IfOk, OnOk};
 ghost use Rattle.std.specs.List.{list_any};
 ghost use Rattle.std.specs.HashSet.{contains};
-ghost use Rattle.ix_symbols.specs.Listed.{same_span};
+ghost use Rattle.ix_meaning.specs.Listed.{same_span};
 ghost use Rattle.ix_text.specs.declared.span.Span.{Span};
 ghost use Rattle.ix_guard.specs.Tests as spec;
 

@@ -8,7 +8,7 @@ ghost use Rattle.ix_guard.specs.Tests as spec;
 
 use crate::parts::{Access, Parts, add_all_declared, add_parts};
 use crate::site::Site;
-use ix_symbols::Meaning;
+use ix_meaning::Meaning;
 use ix_text::Span;
 use ix_tree::{Expr, Ident, LocalDecl};
 use std::alloc::{AllocError, Global};

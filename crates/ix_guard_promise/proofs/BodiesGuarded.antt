@@ -40,9 +40,9 @@ use Rattle.ix_guard_promise.specs.Guards.{Guards, Guarded, does, ends}
 use Rattle.ix_guard_promise.specs.Pieces.{IsElsewhere}
 use Rattle.ix_guard_promise.proofs.GuardedPieces.{elsewhere}
 use Rattle.ix_guard_text.specs.Moved.{Move, moved_span, moved_expr, moved_init, moved_decl}
-use Rattle.ix_guard_promise.specs.TestParts.{Parts}
-use Rattle.ix_guard_promise.specs.GuardedPlaces as placed
-use Rattle.ix_guard_promise.specs.GuardedPlaces.{Each, PlacedMember, PlacedMethod}
+use Rattle.ix_guard_text.specs.TestParts.{Parts}
+use Rattle.ix_guard_text.specs.GuardedPlaces as placed
+use Rattle.ix_guard_text.specs.GuardedPlaces.{Each, PlacedMember, PlacedMethod}
 use Rattle.ix_guard_promise.specs.AllAccesses.{all_accesses, init_accesses, decl_accesses, maybe, each_of}
 use Rattle.ix_guard_promise.specs.AtPlace.{HasNone}
 use Rattle.ix_guard_promise.specs.KeptSlots.{Leaves}

@@ -19,7 +19,7 @@ use Rattle.ix_facts.specs.Stores.{Stored}
 use Rattle.ix_flow.specs.Flow.{Doing, Returning, Ending}
 use Rattle.ix_signatures.specs.Names.{variable_at}
 use Rattle.ix_signatures.specs.SignErrors.{Refuses, Unproved, ArgumentClaim, plain, part}
-use Rattle.ix_check.specs.RuleErrors.{AccessLow, AccessHigh, AssignClaim, KindErrors}
+use Rattle.ix_sign.specs.RuleErrors.{AccessLow, AccessHigh, AssignClaim, KindErrors}
 use Rattle.ix_guard_promise.specs.Known.{Known, Nowhere, Unknown, Inside, accessed, IsInside}
 use Rattle.ix_guard_promise.specs.KnownFacts.{store_of}
 use Rattle.ix_guard_promise.specs.Guards.{IsGuarded}

@@ -12,8 +12,8 @@ use Rattle.ix_formed.specs.Parsed.{IsParsed}
 use Rattle.ix_source.specs.Running.{Ground}
 use Rattle.ix_guard_promise.specs.Guards.{Guards}
 use Rattle.ix_guard_text.specs.Moved.{Move, moved_span}
-use Rattle.ix_guard_promise.specs.GuardedPlaces.{PlacedSource}
-use Rattle.ix_guard_promise.specs.GuardedNames.{SaysMoved, IsMeant}
+use Rattle.ix_guard_text.specs.GuardedPlaces.{PlacedSource}
+use Rattle.ix_guard_text.specs.GuardedNames.{SaysMoved, IsMeant}
 use Rattle.ix_guard_promise.specs.SourceGuards.{SourceGuards}
 use Rattle.ix_guard_promise.proofs.LawsHold.{laws_hold}
 use Rattle.ix_guard_promise.proofs.ProgramsGuarded.{guarded_bodies}

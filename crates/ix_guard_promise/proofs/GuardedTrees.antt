@@ -15,10 +15,10 @@ use Rattle.ix_guard_text.proofs.DerivedAnswers.{one_lexing, one_source}
 use Rattle.ix_guard_text.specs.Inserted.{added}
 use Rattle.ix_guard_text.proofs.GuardedAgain.{derived_accepts}
 use Rattle.ix_guard_text.proofs.ParsedJoint.{parsed_joint}
-use Rattle.ix_guard_promise.specs.GuardedPlaces.{PlacedSource, GuardedAt}
-use Rattle.ix_guard_promise.specs.GuardedNames.{SaysMoved, IsMeant}
-use Rattle.ix_guard_promise.specs.TestParts.{IsWritten}
-use Rattle.ix_guard_promise.proofs.SourcePlaces.{guarded_places}
+use Rattle.ix_guard_text.specs.GuardedPlaces.{PlacedSource, GuardedAt}
+use Rattle.ix_guard_text.specs.GuardedNames.{SaysMoved, IsMeant}
+use Rattle.ix_guard_text.specs.TestParts.{IsWritten}
+use Rattle.ix_guard_text.proofs.SourcePlaces.{guarded_places}
 use Rattle.ix_guard_text.proofs.MovedSays.{inserted_says}
 use Rattle.ix_guard_text.proofs.PlacedSays.{placed_says}
 use Rattle.ix_guard_text.proofs.PlacedMeant.{placed_meant}

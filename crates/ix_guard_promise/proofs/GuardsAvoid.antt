@@ -7,7 +7,7 @@ use Rattle.ix_core.specs.declared.program.Program.{Program}
 use Rattle.ix_core.specs.Code.{Code}
 use Rattle.ix_facts.specs.Stores.{Stored, Reached}
 use Rattle.ix_flow.specs.Flow.{IsFlow}
-use Rattle.ix_check.specs.MethodRules.{method_rules}
+use Rattle.ix_sign.specs.MethodRules.{method_rules}
 use Rattle.ix_guard_promise.specs.KnownFacts.{store_of}
 use Rattle.ix_guard_promise.specs.Guards.{Guards}
 use Rattle.ix_guard_promise.specs.BoundErrors.{IsOfBounds, GivesNo}

@@ -9,7 +9,7 @@ use Rattle.ix_facts.specs.Round.{rounded}
 use Rattle.ix_facts.specs.Stores.{Reached, IsBelow, outcomes_of}
 use Rattle.ix_facts.proofs.StoreLaws.{below_itself}
 use Rattle.ix_signatures.specs.Signs.{entry_facts, told_facts}
-use Rattle.ix_check.specs.MethodRules.{method_rules, RoundedGives}
+use Rattle.ix_sign.specs.MethodRules.{method_rules, RoundedGives}
 use Rattle.ix_guard_promise.specs.Known.{Known, Nowhere, Unknown, Inside, Says}
 use Rattle.ix_guard_promise.specs.KnownFacts.{store_of}
 use Rattle.ix_guard_promise.specs.BoundErrors.{IsOfBounds, GivesNo}

@@ -19,8 +19,8 @@ use Rattle.ix_facts.proofs.StoreLaws.{below_itself}
 use Rattle.ix_rules_hold.specs.FieldAccess.{spared_by}
 use Rattle.ix_signatures.specs.Names.{is_built}
 use Rattle.ix_signatures.specs.Signs.{of_callee, result_facts, read_facts, write_facts, zero_fields, own_fields, fields_facts, inherited_fields}
-use Rattle.ix_check.specs.MethodRules.{copied_claims, KindGives, AfterGives}
-use Rattle.ix_check.proofs.MethodLaws.{kind_step}
+use Rattle.ix_sign.specs.MethodRules.{copied_claims, KindGives, AfterGives}
+use Rattle.ix_sign.proofs.MethodLaws.{kind_step}
 use Rattle.ix_guard_promise.specs.Known.{Known, Nowhere, Unknown, Inside, writes, behind}
 use Rattle.ix_guard_promise.specs.KnownFacts.{store_of}
 use Rattle.ix_guard_promise.proofs.KeptFacts.{Apart, unknown_above, adds_stays, forgets_stays, operated_stays, copies_stays}

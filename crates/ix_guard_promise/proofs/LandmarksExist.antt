@@ -2,7 +2,7 @@
 use Rattle.std.proofs.Common.{◌≡◌, ◌⊎◌, inl, inr, true, false, ℤ, pos, negsuc, ◌+ℤ◌, ◌-ℤ◌, ◌≤ℤ◌, ◌<ℤ◌, List, [], ◌∷◌, arith, refl, sym, subst, ⊎_elim}
 use Rattle.std.specs.Prelude.{int_le, int_lt, cond, ◌&&◌}
 use Rattle.std.proofs.lemmas.Int.{ints}
-use Rattle.ix_core.specs.Ints.{least_int, greatest_int, IsInt}
+use Rattle.ix_num.specs.Ints.{least_int, greatest_int, IsInt}
 use Rattle.ix_core.proofs.Cases.{by_test}
 use Rattle.std.proofs.lemmas.Bool.{and_parts, and_from}
 use Rattle.ix_facts.proofs.Tests.{at_most_true, at_most_is}

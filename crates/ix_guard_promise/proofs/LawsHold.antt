@@ -25,8 +25,8 @@ use Rattle.ix_guard_text.specs.Bare.{bare_maybe}
 use Rattle.ix_guard.specs.Accesses.{Access, parts_of, all_decl_parts}
 use Rattle.ix_guard.specs.Tests.{Site, is_variable, same_variable}
 use Rattle.ix_guard_promise.specs.Pieces.{IsElsewhere, Keeps}
-use Rattle.ix_guard_promise.specs.GuardedNames.{SaysMoved}
-use Rattle.ix_guard_promise.proofs.PartsMoved.{assigned_moved, decls_assigned_moved}
+use Rattle.ix_guard_text.specs.GuardedNames.{SaysMoved}
+use Rattle.ix_guard_text.proofs.PartsMoved.{assigned_moved, decls_assigned_moved}
 use Rattle.ix_guard_text.specs.Moved.{Move, moved_span, moved_name, moved_expr, moved_init, moved_decl, moved_stmt}
 use Rattle.ix_guard_promise.specs.AllAccesses.{AnyAccess, all_accesses, init_accesses, decl_accesses, each_of}
 use Rattle.ix_guard_promise.specs.AtPlace.{HasNone, stmt_accesses}

@@ -90,6 +90,3 @@ pub mod StandingStatements
 pub mod StandingSources
 pub mod GuardedSources
 pub mod OneGuarded
--- Passed on from ix_guard_text.
-pub use Rattle.ix_guard_text.proofs.PartsMoved
-pub use Rattle.ix_guard_text.proofs.SourcePlaces

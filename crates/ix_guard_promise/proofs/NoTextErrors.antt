@@ -8,7 +8,7 @@ use Rattle.ix_core.specs.declared.program.Method.{Method}
 use Rattle.ix_core.specs.declared.program.Program.{Program}
 use Rattle.ix_core.specs.Code.{Code, End, Do, If, Break, Continue, Return, Throw, Loop, Condition, Known as Certain, Compare, Truth, Both, Either, Opposite}
 use Rattle.ix_core.specs.Tables.{body_of}
-use Rattle.ix_check.specs.RuleErrors.{Somewhere, SomewhereAsked, OpText, TestEscapes, EscapesAt, OverridesBy, TextErrors, escapes_by, escapes_in}
+use Rattle.ix_sign.specs.RuleErrors.{Somewhere, SomewhereAsked, OpText, TestEscapes, EscapesAt, OverridesBy, TextErrors, escapes_by, escapes_in}
 use Rattle.ix_guard_promise.specs.BoundErrors.{IsOfBounds}
 use Rattle.ix_guard_promise.proofs.FinePoints.{plain_other, claim_other}
 

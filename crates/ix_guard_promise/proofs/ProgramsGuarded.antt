@@ -37,10 +37,10 @@ use Rattle.ix_guard.specs.Tests.{Site}
 use Rattle.ix_guard_promise.specs.Known.{Unknown}
 use Rattle.ix_guard_promise.specs.Guards.{Guards, ends}
 use Rattle.ix_guard_text.specs.Moved.{Move, moved_span}
-use Rattle.ix_guard_promise.specs.TestParts.{Parts}
-use Rattle.ix_guard_promise.specs.GuardedPlaces as placed
-use Rattle.ix_guard_promise.specs.GuardedPlaces.{Each, PlacedMember, PlacedClass, PlacedSource}
-use Rattle.ix_guard_promise.specs.GuardedNames.{IsMeant}
+use Rattle.ix_guard_text.specs.TestParts.{Parts}
+use Rattle.ix_guard_text.specs.GuardedPlaces as placed
+use Rattle.ix_guard_text.specs.GuardedPlaces.{Each, PlacedMember, PlacedClass, PlacedSource}
+use Rattle.ix_guard_text.specs.GuardedNames.{IsMeant}
 use Rattle.ix_guard_promise.specs.SourceGuards.{MemberGuards, ClassGuards, SourceGuards}
 use Rattle.ix_guard_promise.specs.Laws.{Laws}
 use Rattle.ix_guard_promise.proofs.BodiesGuarded.{default_guards, written_guards}

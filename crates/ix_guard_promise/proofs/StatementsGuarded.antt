@@ -38,9 +38,9 @@ use Rattle.ix_guard_promise.specs.Pieces.{IsElsewhere, Keeps}
 use Rattle.ix_guard_promise.proofs.Saying.{says_unknown}
 use Rattle.ix_guard_text.specs.Moved as moved
 use Rattle.ix_guard_text.specs.Moved.{Move, moved_span, moved_expr, moved_decl, moved_stmt}
-use Rattle.ix_guard_promise.specs.TestParts.{Parts}
-use Rattle.ix_guard_promise.specs.GuardedPlaces as placed
-use Rattle.ix_guard_promise.specs.GuardedPlaces.{AreTests, Inner, Alone, InList}
+use Rattle.ix_guard_text.specs.TestParts.{Parts}
+use Rattle.ix_guard_text.specs.GuardedPlaces as placed
+use Rattle.ix_guard_text.specs.GuardedPlaces.{AreTests, Inner, Alone, InList}
 use Rattle.ix_guard_promise.specs.AllAccesses.{AnyAccess, all_accesses, decl_accesses, maybe, each_of}
 use Rattle.ix_guard_promise.specs.AtPlace.{IsOff, HasNone}
 use Rattle.ix_guard_promise.specs.KeptSlots.{Leaves, Appends}

@@ -1,7 +1,7 @@
 -- What the three comparisons of a guard's test tell where they fail: `0 <= index` and `index < array.length`.
 use Rattle.std.proofs.Common.{◌≡◌, ℕ, false, List, [], ◌∷◌, ◌++◌, inl, inr, refl, sym, subst, ⊎_elim}
 use Rattle.std.specs.Prelude.{◌==◌, pos, negsuc, ◌+ℤ◌, ◌-ℤ◌}
-use Rattle.ix_core.specs.Ints.{greatest_int}
+use Rattle.ix_num.specs.Ints.{greatest_int}
 use Rattle.ix_core.specs.declared.fact.Fact.{Fact}
 use Rattle.ix_core.specs.declared.fact.Fact.TheVariants.{Rng, IsLen, Upper}
 use Rattle.ix_core.specs.declared.fact.Path.{Path}

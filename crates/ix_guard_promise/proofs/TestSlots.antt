@@ -23,7 +23,7 @@ use Rattle.ix_source.specs.Sound as sound
 use Rattle.ix_source.specs.Sound.{Soundness, soundness, used, both_used}
 use Rattle.ix_guard.specs.Tests.{is_variable}
 use Rattle.ix_guard.specs.Trees.{expression, named, either}
-use Rattle.ix_guard_promise.specs.TestParts.{Parts, null_test, negative_test, high_test, condition_of}
+use Rattle.ix_guard_text.specs.TestParts.{Parts, null_test, negative_test, high_test, condition_of}
 use Rattle.ix_guard_promise.specs.Laws.{setting, IsInSlot}
 
 -- ---- a variable that is sound where it is named

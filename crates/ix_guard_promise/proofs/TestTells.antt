@@ -15,7 +15,7 @@ use Rattle.ix_facts.specs.AfterTest.{Outcome, Below, outcome_facts}
 use Rattle.ix_facts.specs.Stores.{Stored, Reached, OutcomesGive, outcomes_of}
 use Rattle.ix_facts.proofs.StoreLaws.{below_itself}
 use Rattle.ix_flow.specs.Flow.{Point, Doing, Asks}
-use Rattle.ix_check.specs.MethodRules.{AfterGives, KindGives, method_rules}
+use Rattle.ix_sign.specs.MethodRules.{AfterGives, KindGives, method_rules}
 use Rattle.ix_guard_promise.specs.Known.{Inside, accessed}
 use Rattle.ix_guard_promise.specs.KnownFacts.{store_of}
 use Rattle.ix_guard_promise.specs.Guards.{Compares, IsTest, outside}

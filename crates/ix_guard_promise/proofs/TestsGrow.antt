@@ -33,10 +33,10 @@ use Rattle.ix_guard_promise.specs.TestForms.{Guards}
 use Rattle.ix_guard_promise.proofs.GuardLowers.{guard_lowers}
 use Rattle.ix_guard_promise.proofs.TestKeeps.{behind_guard, guard_elsewhere, guard_keeps, guard_no_loop}
 use Rattle.ix_guard_text.specs.Moved.{Move}
-use Rattle.ix_guard_promise.specs.TestParts.{Parts, condition_of, throw_of, guard_of}
-use Rattle.ix_guard_promise.specs.GuardedPlaces as placed
-use Rattle.ix_guard_promise.specs.GuardedPlaces.{AreTests}
-use Rattle.ix_guard_promise.specs.GuardedNames.{IsMeant}
+use Rattle.ix_guard_text.specs.TestParts.{Parts, condition_of, throw_of, guard_of}
+use Rattle.ix_guard_text.specs.GuardedPlaces as placed
+use Rattle.ix_guard_text.specs.GuardedPlaces.{AreTests}
+use Rattle.ix_guard_text.specs.GuardedNames.{IsMeant}
 use Rattle.ix_guard_promise.specs.SourceGuards.{IsAmong}
 use Rattle.ix_guard_promise.specs.Laws.{IsInSlot, AreInSlots}
 use Rattle.ix_guard_promise.proofs.Growing.{with_sound, Grows, grows_both}

@@ -5,7 +5,7 @@ use Rattle.ix_core.specs.declared.program.Method.{Method}
 use Rattle.ix_core.specs.declared.program.Program.{Program}
 use Rattle.ix_facts.specs.Stores.{Stored}
 use Rattle.ix_flow.specs.Flow.{Point}
-use Rattle.ix_check.specs.RuleErrors.{PointErrors}
+use Rattle.ix_sign.specs.RuleErrors.{PointErrors}
 
 -- the rules on an index that may be too low and on one that may be too high
 abbrev pub IsOfBounds : Error → Type 0

@@ -1,6 +1,6 @@
 -- What is known along a body that has guards, as facts.
 use Rattle.std.specs.Prelude.{ℕ, pos, List, [], ◌∷◌}
-use Rattle.ix_core.specs.Ints.{greatest_int}
+use Rattle.ix_num.specs.Ints.{greatest_int}
 use Rattle.ix_core.specs.declared.fact.Fact.{Fact}
 use Rattle.ix_core.specs.declared.fact.Fact.TheVariants.{Rng, Upper}
 use Rattle.ix_core.specs.declared.fact.Path.TheVariants.{Slot}

@@ -38,11 +38,3 @@ pub mod SourceGuards
 pub mod SourceAccesses
 -- Where names that are indices stand.
 pub mod StandingIndices
--- Passed on from ix_check.
-pub use Rattle.ix_check.specs.MethodErrors
--- Passed on from ix_guard_text.
-pub use Rattle.ix_guard_text.specs.Guarding
-pub use Rattle.ix_guard_text.specs.TestParts
-pub use Rattle.ix_guard_text.specs.GuardedPlaces
-pub use Rattle.ix_guard_text.specs.GuardedNames
-pub use Rattle.ix_guard_text.specs.Interleaved

@@ -13,14 +13,14 @@ use Rattle.ix_meaning.specs.Resolved.{Accepts, names}
 use Rattle.ix_plain.specs.Program.{program as program_of}
 use Rattle.ix_formed.specs.Additions.{AllOf}
 use Rattle.ix_source.specs.Source.{source}
-use Rattle.ix_guard_promise.specs.MethodErrors.{IsError}
+use Rattle.ix_check.specs.MethodErrors.{IsError}
 use Rattle.ix_guard_promise.specs.BoundErrors.{IsOfBounds}
 use Rattle.ix_guard.specs.Accesses.{Access}
 use Rattle.ix_guard.specs.GuardedAccesses.{guarded_accesses}
 use Rattle.ix_guard.specs.Guards.{source_insertions}
 use Rattle.ix_guard_text.specs.Inserted.{added}
 use Rattle.ix_guard_text.specs.Moved.{Move, moved_span}
-use Rattle.ix_guard_promise.specs.Interleaved.{moving}
+use Rattle.ix_guard_text.specs.Interleaved.{moving}
 use Rattle.ix_guard_promise.specs.Follows.{FollowsRun}
 use Rattle.ix_guard_text.specs.Guarding.{IsGuarded}
 

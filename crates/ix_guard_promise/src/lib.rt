@@ -17,5 +17,3 @@
 //! on `ix_source` for what a source means, on `ix_check` for the rules and the errors of a method, on `ix_flow` for what a flow is and on `ix_facts` for what a test tells.
 //! They never look at how a text is written or judged, at how names are found, at tokens, or at least labels.
 #![tactic(auto)]
-
-pub use ix_guard_text::guarded;

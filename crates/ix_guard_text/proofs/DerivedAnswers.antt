@@ -17,13 +17,13 @@ use Rattle.ix_grammar.specs.declared.classes.FoundUnit.{FoundUnit}
 use Rattle.ix_grammar.specs.declared.error.ParseError.TheVariants as refusal
 use Rattle.ix_grammar.specs.SourceGrammar.{IsSource}
 use Rattle.ix_grammar.specs.Refusals.{HasTree, Refused}
-use Rattle.ix_parser.specs.Stop.TheVariants as stop
-use Rattle.ix_parser.specs.Rule.{Outcome, run}
-use Rattle.ix_parser.specs.ClassRules.{program}
-use Rattle.ix_parser.specs.SourceRules.{parts, source}
-use Rattle.ix_parser.proofs.OverRules.{Further}
-use Rattle.ix_parser.proofs.SourceLaws.{high_is_read, no_error}
-use Rattle.ix_parser.proofs.SourceOver.{source_over}
+use Rattle.ix_grammar_rules.specs.declared.stop.Stop.TheVariants as stop
+use Rattle.ix_grammar_rules.specs.Rule.{Outcome, run}
+use Rattle.ix_grammar_rules.specs.ClassRules.{program}
+use Rattle.ix_grammar_rules.specs.SourceRules.{parts, source}
+use Rattle.ix_grammar_rules.proofs.OverRules.{Further}
+use Rattle.ix_grammar_rules.proofs.SourceLaws.{high_is_read, no_error}
+use Rattle.ix_grammar_rules.proofs.SourceOver.{source_over}
 use Rattle.ix_parser.proofs.Refusing.{has_tree, never_memory}
 use Rattle.ix_parser.proofs.ExactPlaces.{refused_exact}
 use Rattle.ix_parser.proofs.Answered.{viable, over}

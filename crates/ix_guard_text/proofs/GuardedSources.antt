@@ -12,7 +12,7 @@ use Rattle.ix_grammar.specs.ClassGrammar.{IsClass, no_classes, with_class}
 use Rattle.ix_grammar.specs.SourceGrammar.{source_parts, IsSource}
 use Rattle.ix_grammar.specs.Refusals.{HasTree}
 use Rattle.ix_core.specs.declared.error.Error.{Error}
-use Rattle.ix_guard.specs.Resolved.{Names, names}
+use Rattle.ix_meaning.specs.Resolved.{Names, names}
 use Rattle.ix_guard_text.specs.Bare.{bare_class, bare_source}
 use Rattle.ix_guard_text.proofs.ListsAgain.{map_joined}
 use Rattle.ix_guard_text.proofs.SourcesAgain.{source_again}

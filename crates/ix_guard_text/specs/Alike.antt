@@ -1,11 +1,11 @@
 -- Notes with one place everywhere: two notes are the same up to places where these are equal. A note has one place, and in a broken rule's note this
 -- is the place of the error; what a note says beside it (what a use means, a type, what a declaration says, which rule is broken) holds no place.
 use Rattle.std.specs.Prelude.{◌≡◌, Bool, false, Option, None, List, [], ◌∷◌, map}
-use Rattle.ix_annot.specs.ClassDecl.{ClassDecl}
-use Rattle.ix_annot.specs.LocalDecl.{LocalDecl}
-use Rattle.ix_annot.specs.Member.{Member}
-use Rattle.ix_annot.specs.Member.TheVariants as member
-use Rattle.ix_annot.specs.Unit.{Unit as Source}
+use Rattle.ix_tree.specs.declared.decl.ClassDecl.{ClassDecl}
+use Rattle.ix_tree.specs.declared.decl.LocalDecl.{LocalDecl}
+use Rattle.ix_tree.specs.declared.decl.Member.{Member}
+use Rattle.ix_tree.specs.declared.decl.Member.TheVariants as member
+use Rattle.ix_tree.specs.declared.decl.Unit.{Unit as Source}
 use Rattle.ix_meaning.specs.declared.note.NameError.{NameError}
 use Rattle.ix_meaning.specs.declared.note.Note.{Note}
 use Rattle.ix_meaning.specs.declared.note.Note.TheVariants.{Use, Typed, Declares, Wrong, WrongAnnot}

@@ -8,11 +8,12 @@ ghost use Rattle.ix_guard_text.specs.Guarding.{HaveNamedTree, IsGuarded, IsNamed
 ghost use Rattle.ix_guard_text.specs.Derived.{Derives};
 
 use ix_core::Error;
+use ix_grammar::error::ParseError;
 use ix_guard::guard;
 use ix_lexer::{LexError, Token, lex};
 use ix_meaning::NameErrors;
 use ix_names::resolve;
-use ix_parser::{ParseError, parse};
+use ix_parser::parse;
 use ix_tree::Unit;
 use std::alloc::{AllocError, Global};
 

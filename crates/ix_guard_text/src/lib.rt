@@ -27,4 +27,3 @@
 mod guarding;
 
 pub use guarding::guarded;
-pub use ix_parser::{ParseError, parse};

@@ -3,11 +3,11 @@
 use Rattle.std.specs.Prelude.{ℤ, pos, ◌-ℤ◌, List, Option, None}
 use Rattle.std.specs.Option.{option_map}
 use Rattle.std.specs.Int.{int_min}
-use Rattle.ix_facts.specs.Arith.{Arith}
-use Rattle.ix_facts.specs.Arith.TheVariants.{Add, Sub}
-use Rattle.ix_facts.specs.Interval.{Interval}
-use Rattle.ix_facts.specs.Intervals.{normal}
-use Rattle.ix_facts.specs.OpRanges.{op_range}
+use Rattle.ix_num.specs.declared.arith.Arith.{Arith}
+use Rattle.ix_num.specs.declared.arith.Arith.TheVariants.{Add, Sub}
+use Rattle.ix_num.specs.declared.interval.Interval.{Interval}
+use Rattle.ix_num.specs.Intervals.{normal}
+use Rattle.ix_num.specs.OpRanges.{op_range}
 use Rattle.ix_facts.specs.Path.{Path}
 use Rattle.ix_facts.specs.Fact.{Fact}
 use Rattle.ix_facts.specs.Bounds

@@ -3,9 +3,9 @@
 ghost use Rattle.std.specs.Prelude.{◌≡◌, ◌++◌, ◌&&◌, IfSome, Option, Some, None, pos, ◌-ℤ◌, OnOk};
 ghost use Rattle.std.specs.Int.{int_min};
 ghost use Rattle.std.specs.Option.{option_map};
-ghost use Rattle.ix_facts.specs.Arith.TheVariants.{Add, Sub};
-ghost use Rattle.ix_facts.specs.Intervals.{IsWithin, all_ints, normal, interval};
-ghost use Rattle.ix_facts.specs.OpRanges.{op_range};
+ghost use Rattle.ix_num.specs.declared.arith.Arith.TheVariants.{Add, Sub};
+ghost use Rattle.ix_num.specs.Intervals.{IsWithin, all_ints, normal, interval};
+ghost use Rattle.ix_num.specs.OpRanges.{op_range};
 ghost use Rattle.ix_facts.specs.Fact.TheVariants.{Upper};
 ghost use Rattle.ix_facts.specs.Bounds as spec;
 ghost use Rattle.ix_facts.specs.Closure.{kept};
@@ -16,9 +16,9 @@ ghost use Rattle.ix_facts.specs.Small.{IsBound, IsEnd};
 
 use crate::push::{push_fact, push_if};
 use ix_facts::{
-    Arith, Fact, Interval, Know, Low, Path, PathOff, Profile, UnaryNum, is_same_path, lesser,
-    low_table,
+    Fact, Know, Low, Path, PathOff, Profile, UnaryNum, is_same_path, lesser, low_table,
 };
+use ix_num::{Arith, Interval};
 use std::alloc::AllocError;
 
 /// From an int's lower bound to its upper limit.

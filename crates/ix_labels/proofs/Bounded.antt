@@ -12,9 +12,9 @@ use Rattle.ix_graph.specs.Graph.{behind_code, method_parts}
 use Rattle.ix_graph.specs.Linked.{HaveEdges}
 use Rattle.ix_lattice.specs.Lattice.{LatticeLaws, same_rank}
 use Rattle.ix_facts.specs.Stores.{IsBelow}
-use Rattle.ix_sign.specs.Store.{Store}
-use Rattle.ix_sign.specs.StoredFacts.{stored}
-use Rattle.ix_sign.specs.StoreOrder.{StoreBelow, store_rank, top_rank}
+use Rattle.ix_store.specs.declared.store.Store.{Store}
+use Rattle.ix_store.specs.StoredFacts.{stored}
+use Rattle.ix_store.specs.StoreOrder.{StoreBelow, store_rank, top_rank}
 use Rattle.ix_solve.specs.Readers.{readings}
 use Rattle.ix_solve.specs.Solutions.{one_least_solution}
 use Rattle.ix_graph.specs.GraphSolutions.{NodeAsks}

@@ -13,9 +13,9 @@ use Rattle.ix_graph.specs.declared.node.Node.{Node}
 use Rattle.ix_graph.specs.Graph.{Joins, behind_code}
 use Rattle.ix_graph.specs.GraphSolutions.{label_at}
 use Rattle.ix_graph.specs.Built.{kind_of}
-use Rattle.ix_sign.specs.Store.{Store}
-use Rattle.ix_sign.specs.StoredFacts.{stored}
-use Rattle.ix_sign.specs.StoreOrder.{nowhere, store_rank, top_rank}
+use Rattle.ix_store.specs.declared.store.Store.{Store}
+use Rattle.ix_store.specs.StoredFacts.{stored}
+use Rattle.ix_store.specs.StoreOrder.{nowhere, store_rank, top_rank}
 use Rattle.ix_solve.proofs.LabelLists.{meaning_at}
 use Rattle.ix_solve.specs.Readers.{readings}
 use Rattle.ix_solve.specs.Solutions.{IsLeastOf}

@@ -17,10 +17,10 @@ use Rattle.ix_graph.proofs.Numbers.{method_numbered}
 use Rattle.ix_graph.proofs.Solved.{solved_least}
 use Rattle.ix_labels.specs.declared.labels.Labels.{Labels}
 use Rattle.ix_labels.specs.Labels.{AreLabels}
-use Rattle.ix_labels.specs.MethodRules.{method_rules}
-use Rattle.ix_labels.proofs.MethodLaws.{method_laws}
-use Rattle.ix_labels.specs.Store.{Store}
-use Rattle.ix_labels.specs.StoredFacts.{stored}
+use Rattle.ix_sign.specs.MethodRules.{method_rules}
+use Rattle.ix_sign.proofs.MethodLaws.{method_laws}
+use Rattle.ix_store.specs.declared.store.Store.{Store}
+use Rattle.ix_store.specs.StoredFacts.{stored}
 use Rattle.ix_solve.proofs.LabelLists.{meaning_at}
 use Rattle.ix_labels.specs.LoopLabels.{AreLoopLabels, is_head, one_if, head_stores}
 

@@ -24,12 +24,12 @@ use Rattle.ix_graph.proofs.Numbers.{method_below}
 use Rattle.ix_graph.specs.Brought.{pass_of, IsSettled}
 use Rattle.ix_graph.specs.Built.{kind_of, edges_of, targets_from}
 use Rattle.ix_graph.specs.Linked.{HaveEdges}
-use Rattle.ix_sign.specs.Signs as signs
-use Rattle.ix_sign.specs.Signs.{Adds, entry_facts, told_facts}
+use Rattle.ix_signatures.specs.Signs as signs
+use Rattle.ix_signatures.specs.Signs.{Adds, entry_facts, told_facts}
 use Rattle.ix_solve.specs.Solutions.{IsLeastOf}
-use Rattle.ix_sign.specs.Store.{Store}
-use Rattle.ix_sign.specs.StoredFacts.{stored}
-use Rattle.ix_sign.specs.StoreOrder.{StoreBelow}
+use Rattle.ix_store.specs.declared.store.Store.{Store}
+use Rattle.ix_store.specs.StoredFacts.{stored}
+use Rattle.ix_store.specs.StoreOrder.{StoreBelow}
 use Rattle.ix_labels.specs.declared.problem.Problem.{Problem}
 use Rattle.ix_labels.specs.Problem.{rules_of, kind_in, kinds_at, kept_in, parts_of, edges_at, readers_of, Asks}
 use Rattle.ix_labels.specs.ProblemLaws.{laws_with}

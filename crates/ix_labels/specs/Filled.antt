@@ -10,9 +10,9 @@ use Rattle.ix_graph.specs.declared.node.Node.{Node}
 use Rattle.ix_graph.specs.Graph.{method_parts}
 use Rattle.ix_graph.specs.Built.{kinds_of}
 use Rattle.ix_graph.specs.Linked.{kinds_in}
-use Rattle.ix_sign.specs.Store.{Store}
-use Rattle.ix_sign.specs.StoredFacts.{stored}
-use Rattle.ix_sign.specs.StoreOrder.{store_rank, top_rank}
+use Rattle.ix_store.specs.declared.store.Store.{Store}
+use Rattle.ix_store.specs.StoredFacts.{stored}
+use Rattle.ix_store.specs.StoreOrder.{store_rank, top_rank}
 use Rattle.ix_solve.specs.Readers.{readings}
 use Rattle.ix_solve.specs.Solutions.{IsSolution, IsLeast, IsLeastOf}
 use Rattle.ix_labels.specs.declared.problem.Problem.{Problem}

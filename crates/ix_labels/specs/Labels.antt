@@ -12,8 +12,8 @@ use Rattle.ix_graph.specs.Linked.{kinds_in}
 use Rattle.ix_sign.specs.MethodRules.{method_rules}
 use Rattle.ix_solve.specs.Solutions.{IsSolution, IsLeast}
 use Rattle.ix_facts.specs.Stores.{IsBelow}
-use Rattle.ix_sign.specs.Store.{Store}
-use Rattle.ix_sign.specs.StoredFacts.{stored}
+use Rattle.ix_store.specs.declared.store.Store.{Store}
+use Rattle.ix_store.specs.StoredFacts.{stored}
 use Rattle.ix_labels.specs.declared.labels.Labels.{Labels}
 
 -- The nodes are those of the method's graph, and what the stores say is its least solution by the rules of the method.

@@ -16,12 +16,7 @@ pub mod Visits
 pub mod LoopLabels
 -- Passed on from ix_sign.
 pub use Rattle.ix_sign.specs.MethodRules
-pub use Rattle.ix_sign.specs.Naming
-pub use Rattle.ix_sign.specs.Store
 pub use Rattle.ix_sign.specs.RuleErrors
 pub use Rattle.ix_sign.specs.SignErrors
-pub use Rattle.ix_sign.specs.StoredFacts
--- Passed on from ix_facts.
-pub use Rattle.ix_facts.specs.Stores
+
 -- What is passed on of the graph, for the bound on visits.
-pub use Rattle.ix_graph.specs.Graph

@@ -4,15 +4,15 @@ use Rattle.ix_core.specs.declared.fact.Profile.{Profile}
 use Rattle.ix_core.specs.declared.program.Method.{Method}
 use Rattle.ix_core.specs.declared.program.Program.{Program}
 use Rattle.ix_core.specs.Code.{block_code}
-use Rattle.ix_labels.specs.Stores.{Stored}
+use Rattle.ix_facts.specs.Stores.{Stored}
 use Rattle.ix_flow.specs.Flow.{IsLeastFlow}
 use Rattle.ix_graph.specs.declared.node.Node.{Node}
 use Rattle.ix_graph.specs.Built.{kind_of}
 use Rattle.ix_graph.specs.Graph.{Kind, Heads, method_parts}
 use Rattle.ix_graph.specs.Heads.{heads_in}
-use Rattle.ix_labels.specs.MethodRules.{method_rules}
-use Rattle.ix_labels.specs.Store.{Store}
-use Rattle.ix_labels.specs.StoredFacts.{stored}
+use Rattle.ix_sign.specs.MethodRules.{method_rules}
+use Rattle.ix_store.specs.declared.store.Store.{Store}
+use Rattle.ix_store.specs.StoredFacts.{stored}
 
 -- One label for each loop of the body, in the order of the loops' numbers: what they say are the labels of a flow of the body by the rules of the method, and below those of every flow.
 pub record AreLoopLabels (program : Program) (method : Method) (profile : Profile) (found : List Store) : Type 0 where

@@ -14,11 +14,11 @@ use Rattle.ix_flow.specs.Flow.{RulesLaws}
 use Rattle.ix_graph.specs.Graph.{behind_code, AreBelow}
 use Rattle.ix_graph.proofs.Numbers.{method_below}
 use Rattle.ix_sign.proofs.MethodLaws.{method_laws}
-use Rattle.ix_sign.specs.Signs.{entry_facts}
+use Rattle.ix_signatures.specs.Signs.{entry_facts}
 use Rattle.ix_solve.specs.Solutions.{IsMonotone, OrdersBy}
 use Rattle.ix_solve.specs.Readers.{DependsOnRead}
-use Rattle.ix_sign.specs.StoredFacts.{stored}
-use Rattle.ix_sign.specs.StoreOrder.{StoreBelow}
+use Rattle.ix_store.specs.StoredFacts.{stored}
+use Rattle.ix_store.specs.StoreOrder.{StoreBelow}
 use Rattle.ix_labels.specs.declared.problem.Problem.{Problem}
 use Rattle.ix_labels.specs.Problem.{readers_of, rules_with, rules_of, kinds_at, kept_in, edges_at, parts_of, Asks}
 use Rattle.ix_labels.specs.RunLaws.{runs_monotone, runs_depend}

@@ -8,7 +8,7 @@ use Rattle.ix_core.specs.declared.claim.Post.{Post}
 use Rattle.ix_core.specs.declared.program.Method.{Method}
 use Rattle.ix_core.specs.declared.program.Program.{Program}
 use Rattle.ix_core.specs.Objects.{claim_names, post_names}
-use Rattle.ix_sign.specs.Naming.{IsSmallName, AreSmallNames, AreSmallClaims, AreSmallPosts, HasSmallNames, HaveSmallNames}
+use Rattle.ix_signatures.specs.Naming.{IsSmallName, AreSmallNames, AreSmallClaims, AreSmallPosts, HasSmallNames, HaveSmallNames}
 
 name_once : (name : Name) → IsProp (IsSmallName name)
 name_once (Param number) = le_prop

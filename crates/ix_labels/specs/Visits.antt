@@ -10,10 +10,10 @@ use Rattle.ix_graph.specs.Graph.{behind_code, method_parts}
 use Rattle.ix_graph.specs.GraphSolutions.{NodeAsks}
 use Rattle.ix_graph.specs.Built.{edges_of, targets_from}
 use Rattle.ix_sign.specs.MethodRules.{method_rules}
-use Rattle.ix_sign.specs.Store.{Store}
+use Rattle.ix_store.specs.declared.store.Store.{Store}
 use Rattle.ix_facts.specs.Stores.{IsBelow}
-use Rattle.ix_sign.specs.StoredFacts.{stored}
-use Rattle.ix_sign.specs.StoreOrder.{store_rank, top_rank}
+use Rattle.ix_store.specs.StoredFacts.{stored}
+use Rattle.ix_store.specs.StoreOrder.{store_rank, top_rank}
 use Rattle.ix_solve.specs.Readers.{readings}
 use Rattle.ix_solve.specs.Solutions.{IsSolution, IsLeast}
 

@@ -3,7 +3,7 @@
 ghost use Rattle.std.specs.Prelude.{◌≡◌, length};
 
 use crate::problem::Problem;
-use ix_sign::Store;
+use ix_store::Store;
 
 /// The labels of a method that are kept, and what the others are made of.
 #[derive(Drop)]

@@ -3,15 +3,15 @@
 ghost use Rattle.std.specs.Prelude.{◌+◌, ◌≤◌, IfOk};
 ghost use Rattle.ix_core.specs.Code.{block_code};
 ghost use Rattle.ix_graph.specs.Graph.{behind_code};
-ghost use Rattle.ix_sign.specs.Naming.{HasSmallNames, HaveSmallNames};
+ghost use Rattle.ix_signatures.specs.Naming.{HasSmallNames, HaveSmallNames};
 ghost use Rattle.ix_labels.specs.Labels.{AreLabels};
 ghost use Rattle.ix_labels.specs.Visits.{visits_by};
 
 use crate::run_labels::solved;
 use ix_core::{Method, Profile, Program};
 use ix_graph::Graph;
-use ix_sign::Store;
 use ix_solve::Steps;
+use ix_store::Store;
 use std::alloc::{AllocError, Global};
 use std::sync::ledger::Ledger;
 

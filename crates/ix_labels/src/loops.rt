@@ -6,7 +6,7 @@ ghost use Rattle.ix_graph.specs.Built.{kind_of};
 ghost use Rattle.ix_graph.specs.Graph.{behind_code, method_parts};
 ghost use Rattle.ix_graph.specs.Heads.{AreInOrder};
 ghost use Rattle.ix_labels.specs.LoopLabels as spec;
-ghost use Rattle.ix_labels.specs.Naming.{HasSmallNames, HaveSmallNames};
+ghost use Rattle.ix_signatures.specs.Naming.{HasSmallNames, HaveSmallNames};
 ghost use Rattle.ix_labels.specs.Visits.{VisitsWithin};
 
 use crate::{Store, label_nodes};

@@ -5,7 +5,7 @@ ghost use Rattle.ix_core.specs.Code.{block_code};
 ghost use Rattle.ix_graph.specs.Graph.{behind_code, method_parts};
 ghost use Rattle.ix_graph.specs.Built.{edges_of};
 ghost use Rattle.ix_graph.specs.Linked.{HaveEdges};
-ghost use Rattle.ix_sign.specs.Naming.{HasSmallNames, HaveSmallNames};
+ghost use Rattle.ix_signatures.specs.Naming.{HasSmallNames, HaveSmallNames};
 ghost use Rattle.ix_labels.specs.Runs.{AreRuns, readers_through, runs_once};
 ghost use Rattle.ix_labels.specs.SmallOnce.{method_once, program_once};
 

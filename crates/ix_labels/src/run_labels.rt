@@ -3,7 +3,7 @@
 ghost use Rattle.std.specs.Prelude.{◌≡◌, ◌+◌, ◌<◌, ◌≤◌, false, IfOk, length};
 ghost use Rattle.ix_core.specs.Code.{block_code};
 ghost use Rattle.ix_graph.specs.Graph.{behind_code};
-ghost use Rattle.ix_sign.specs.Naming.{HasSmallNames, HaveSmallNames};
+ghost use Rattle.ix_signatures.specs.Naming.{HasSmallNames, HaveSmallNames};
 ghost use Rattle.ix_labels.specs.Filled.{IsProblemOf, AreRunLabels, IsLabel, IsMade, nodes_of, run_visits};
 ghost use Rattle.ix_labels.specs.Problem.{kept_in};
 ghost use Rattle.ix_labels.specs.Runs.{AreKept, node_in_turn};
@@ -14,8 +14,8 @@ use crate::runs::{goes_on, node_before, runs_in};
 use ix_core::{Method, Profile, Program};
 use ix_graph::{Edge, Graph, Node, graph, sweep_parts};
 use ix_landmarks::landmarks;
-use ix_sign::Store;
 use ix_solve::{Steps, solve_graph};
+use ix_store::Store;
 use std::alloc::{AllocError, Global};
 use std::sync::ledger::Ledger;
 

@@ -6,7 +6,7 @@ ghost use Rattle.ix_flow.specs.Flow.{Anything};
 ghost use Rattle.ix_graph.specs.GraphSolutions.{Carries};
 ghost use Rattle.ix_graph.specs.Brought.{pass_of, IsSettled};
 ghost use Rattle.ix_facts.specs.Stores.{IsBelow};
-ghost use Rattle.ix_sign.specs.StoredFacts.{stored};
+ghost use Rattle.ix_store.specs.StoredFacts.{stored};
 ghost use Rattle.ix_labels.specs.Problem.{rules_of, kinds_at, edges_at};
 ghost use Rattle.ix_labels.specs.Runs.{Begins};
 ghost use Rattle.ix_labels.specs.RunAsks.{BringsOf, EachBrings, KeptTo, FirstTo, RunsTo};
@@ -16,8 +16,9 @@ use crate::runs::start_of;
 use ix_graph::{Edge, NodeKind, last_op};
 use ix_lattice::Lattice;
 use ix_refine::branch;
-use ix_sign::{Store, after, enter, tell};
+use ix_sign::{after, enter, tell};
 use ix_solve::{FlowProblem, Steps};
+use ix_store::Store;
 use std::alloc::{AllocError, Global};
 use std::sync::ledger::Ledger;
 
@@ -211,7 +212,7 @@ impl<'a> Problem<'a> {
 
 impl<'a> FlowProblem for Problem<'a> {
     ghost use Rattle.ix_facts.specs.Stores.{Stored, IsBelow};
-    ghost use Rattle.ix_sign.specs.StoredFacts.{stored};
+    ghost use Rattle.ix_store.specs.StoredFacts.{stored};
     ghost use Rattle.ix_labels.specs.Problem.{readers_of, Asks};
     ghost use Rattle.ix_labels.specs.ProblemLaws.{store_order, problem_monotone, problem_depends};
 

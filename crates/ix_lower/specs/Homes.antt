@@ -1,7 +1,7 @@
 -- What a method of the code stands in, as the definition has it.
 use Rattle.std.specs.Prelude.{[], List, Result, Ok}
 use Rattle.ix_core.specs.declared.program.Program.{Program}
-use Rattle.ix_meaning.specs.ClassDecl.{ClassDecl}
+use Rattle.ix_tree.specs.declared.decl.ClassDecl.{ClassDecl}
 use Rattle.ix_meaning.specs.Limits.{Passed}
 use Rattle.ix_plain.specs.Counts.{accesses}
 use Rattle.ix_plain.specs.Members.{classes_from, fields_from, first_numbers}

@@ -5,16 +5,16 @@ ghost use Rattle.ix_plain.specs.declared.made.Stop.TheVariants as stop;
 ghost use Rattle.ix_plain.specs.Assigned.{all_assign};
 ghost use Rattle.ix_plain.specs.Program as spec;
 ghost use Rattle.ix_plain.specs.Statements.{assigned_by};
-ghost use Rattle.ix_lower_statements.specs.Shown.{shown_site};
+ghost use Rattle.ix_lower_expressions.specs.Shown.{shown_site};
 ghost use Rattle.ix_lower.specs.Homes.{shown_home};
 
 use crate::home::Home;
 use crate::number::next_field;
 use ix_core::{OpKind, Type_};
-use ix_lower_statements::{
-    Scope, Site, add_all, arguments, assign, call_op, compute, constructor_at, declared_type,
-    evaluate_init, init_span,
+use ix_lower_expressions::{
+    Scope, Site, add_all, arguments, assign, call_op, compute, constructor_at,
 };
+use ix_lower_statements::{declared_type, evaluate_init, init_span};
 use ix_plain::{Body, Spot, Stop};
 use ix_text::{List, Span};
 use ix_tree::{Expr, LocalDecl, Member};

@@ -6,7 +6,7 @@ ghost use Rattle.ix_meaning.specs.declared.note.Which.{Which};
 ghost use Rattle.ix_plain.specs.declared.made.Stop.TheVariants as stop;
 ghost use Rattle.ix_plain.specs.Members.{is_static};
 ghost use Rattle.ix_plain.specs.Program as spec;
-ghost use Rattle.ix_lower_statements.specs.Shown.{shown_site};
+ghost use Rattle.ix_lower_expressions.specs.Shown.{shown_site};
 ghost use Rattle.ix_class_members.specs.World.{callee, shown as shown_world};
 ghost use Rattle.ix_lower.specs.Homes.{shown_tables, shown_home};
 
@@ -19,7 +19,8 @@ use crate::number::is_static;
 use crate::post::{posts, some_conditional};
 use ix_class_members::{Called, World};
 use ix_core::{Block, Method, Type_};
-use ix_lower_statements::{MOST_LOOPS, Site, copied_text, count_operations, each, empty, loops};
+use ix_lower_expressions::{Site, empty};
+use ix_lower_statements::{MOST_LOOPS, copied_text, count_operations, each, loops};
 use ix_meaning::Which;
 use ix_plain::{Body, Made, Stop};
 use ix_text::{List, Span};

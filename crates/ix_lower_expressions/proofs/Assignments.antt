@@ -2,8 +2,8 @@
 use Rattle.std.proofs.Common.{◌≡◌, ℕ, Bool, if◌then◌else◌, pos, Option, Some, None, Ok, Err, sym, ap, ◌∙◌}
 use Rattle.ix_core.specs.declared.op.OpKind.TheVariants as op
 use Rattle.ix_core.specs.Types.{int_type}
-use Rattle.ix_meaning.specs.Arith.{Arith}
-use Rattle.ix_meaning.specs.Arith.TheVariants.{Add, Sub}
+use Rattle.ix_num.specs.declared.arith.Arith.{Arith}
+use Rattle.ix_num.specs.declared.arith.Arith.TheVariants.{Add, Sub}
 use Rattle.ix_meaning.specs.declared.note.Which.{Which}
 use Rattle.ix_text.specs.declared.span.Span.{Span}
 use Rattle.ix_tree.specs.declared.expr.Expr.{Expr, fold-roll-Expr}

@@ -3,7 +3,7 @@ use Rattle.std.proofs.Common.{◌≡◌, ℕ, Bool, true, false, if◌then◌els
 use Rattle.ix_core.specs.declared.op.OpKind.TheVariants as op
 use Rattle.ix_meaning.specs.declared.note.Which.{Which}
 use Rattle.ix_text.specs.declared.span.Span.{Span}
-use Rattle.ix_meaning.specs.Ident.{Ident}
+use Rattle.ix_tree.specs.declared.annot.Ident.{Ident}
 use Rattle.ix_meaning.specs.declared.note.Meaning.{Meaning}
 use Rattle.ix_tree.specs.declared.expr.Expr.{Expr, fold-roll-Expr}
 use Rattle.ix_tree.specs.declared.expr.ExprKind.{ExprKind, ExprKind-F, fold-ExprKind, fold-roll-ExprKind}

@@ -1,7 +1,7 @@
 -- What a new object, a new array and the target of a field become, part by part. The answers of the functions that make them cite these.
 use Rattle.std.proofs.Common.{◌≡◌, ℕ, List, [], map, Err, sym, ap, ◌∙◌}
 use Rattle.ix_core.specs.declared.op.OpKind.TheVariants as op
-use Rattle.ix_meaning.specs.Ident.{Ident}
+use Rattle.ix_tree.specs.declared.annot.Ident.{Ident}
 use Rattle.ix_meaning.specs.declared.note.Which.{Which}
 use Rattle.ix_text.specs.declared.span.Span.{Span}
 use Rattle.ix_tree.specs.declared.annot.TypeTree.{TypeTree}

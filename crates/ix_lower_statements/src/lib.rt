@@ -16,7 +16,4 @@ pub use access::accesses;
 pub use count::{count_operations, loops, one_more};
 pub use declare::{declared_type, init_span};
 pub use full::{copied_text, evaluate_init};
-pub use ix_lower_expressions::{
-    Scope, Site, add_all, arguments, assign, call_op, compute, constructor_at, copied_claims, empty,
-};
 pub use statement::{MOST_LOOPS, each};

@@ -1,6 +1,6 @@
 -- A declaration of locals declares as many as it has declarators.
 use Rattle.std.proofs.Common.{◌≡◌, ◌+◌, List, [], ◌∷◌, map, refl, ap}
-use Rattle.ix_annot.specs.LocalDecl.{LocalDecl}
+use Rattle.ix_tree.specs.declared.decl.LocalDecl.{LocalDecl}
 use Rattle.ix_meaning.specs.Bodies.{all_declared}
 use Rattle.ix_meaning.specs.Declarators.{further, declarators}
 

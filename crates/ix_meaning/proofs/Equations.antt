@@ -2,23 +2,23 @@
 use Rattle.std.proofs.Common.{◌≡◌, ℤ, Bool, List, Option, Some, None, map, sym, ap, ◌∙◌}
 use Rattle.ix_text.specs.declared.span.Span.{Span}
 use Rattle.ix_num.specs.declared.arith.Arith.{Arith}
-use Rattle.ix_annot.specs.Ident.{Ident}
-use Rattle.ix_annot.specs.TypeTree.{TypeTree}
-use Rattle.ix_annot.specs.LocalDecl.{LocalDecl}
-use Rattle.ix_annot.specs.BinaryOp.{BinaryOp}
-use Rattle.ix_annot.specs.UnaryOp.{UnaryOp}
-use Rattle.ix_annot.specs.Expr.{Expr, fold-roll-Expr}
-use Rattle.ix_annot.specs.ExprKind.{ExprKind, ExprKind-F, fold-roll-ExprKind}
-use Rattle.ix_annot.specs.ExprKind.TheVariants.{rolls-Int, rolls-Bool, rolls-Null, rolls-This, rolls-Name, rolls-Select, rolls-Index, rolls-Call, rolls-New, rolls-NewArray, rolls-NewItems, rolls-Unary, rolls-Binary, rolls-Assign, rolls-Step}
-use Rattle.ix_annot.specs.ExprKind.TheVariants as e
-use Rattle.ix_annot.specs.Init.{Init, Init-F, fold-roll-Init}
-use Rattle.ix_annot.specs.Init.TheVariants.{rolls-Value, rolls-Items}
-use Rattle.ix_annot.specs.Init.TheVariants as i
-use Rattle.ix_annot.specs.Stmt.{Stmt, fold-roll-Stmt}
-use Rattle.ix_annot.specs.StmtKind.{StmtKind, StmtKind-F, fold-roll-StmtKind}
-use Rattle.ix_annot.specs.StmtKind.TheVariants.{rolls-Block, rolls-Empty, rolls-Local, rolls-If, rolls-While, rolls-Do, rolls-For, rolls-Break, rolls-Continue, rolls-Return, rolls-Throw, rolls-Print, rolls-Run}
-use Rattle.ix_annot.specs.StmtKind.TheVariants as s
-use Rattle.ix_annot.specs.Type_.{Type_ as Ty}
+use Rattle.ix_tree.specs.declared.annot.Ident.{Ident}
+use Rattle.ix_tree.specs.declared.annot.TypeTree.{TypeTree}
+use Rattle.ix_tree.specs.declared.decl.LocalDecl.{LocalDecl}
+use Rattle.ix_tree.specs.declared.expr.BinaryOp.{BinaryOp}
+use Rattle.ix_tree.specs.declared.expr.UnaryOp.{UnaryOp}
+use Rattle.ix_tree.specs.declared.expr.Expr.{Expr, fold-roll-Expr}
+use Rattle.ix_tree.specs.declared.expr.ExprKind.{ExprKind, ExprKind-F, fold-roll-ExprKind}
+use Rattle.ix_tree.specs.declared.expr.ExprKind.TheVariants.{rolls-Int, rolls-Bool, rolls-Null, rolls-This, rolls-Name, rolls-Select, rolls-Index, rolls-Call, rolls-New, rolls-NewArray, rolls-NewItems, rolls-Unary, rolls-Binary, rolls-Assign, rolls-Step}
+use Rattle.ix_tree.specs.declared.expr.ExprKind.TheVariants as e
+use Rattle.ix_tree.specs.declared.expr.Init.{Init, Init-F, fold-roll-Init}
+use Rattle.ix_tree.specs.declared.expr.Init.TheVariants.{rolls-Value, rolls-Items}
+use Rattle.ix_tree.specs.declared.expr.Init.TheVariants as i
+use Rattle.ix_tree.specs.declared.stmt.Stmt.{Stmt, fold-roll-Stmt}
+use Rattle.ix_tree.specs.declared.stmt.StmtKind.{StmtKind, StmtKind-F, fold-roll-StmtKind}
+use Rattle.ix_tree.specs.declared.stmt.StmtKind.TheVariants.{rolls-Block, rolls-Empty, rolls-Local, rolls-If, rolls-While, rolls-Do, rolls-For, rolls-Break, rolls-Continue, rolls-Return, rolls-Throw, rolls-Print, rolls-Run}
+use Rattle.ix_tree.specs.declared.stmt.StmtKind.TheVariants as s
+use Rattle.ix_core.specs.declared.claim.Type_.{Type_ as Ty}
 use Rattle.ix_meaning.specs.Scope.{Scope}
 use Rattle.ix_meaning.specs.Values.{Reading, KindReading, Filling, kind_step, init_step, expr_step, reading, kind_reading, filling}
 use Rattle.ix_meaning.specs.Bodies.{Telling, stmt_kind_step, stmt_step, telling, kind_telling}

@@ -1,13 +1,13 @@
 -- Worked sources, against the answers of the independent checker.
 use Rattle.std.proofs.Common.{◌≡◌, pos, negsuc, true, false, Some, None, List, [], ◌∷◌, codes, refl}
-use Rattle.ix_annot.specs.ClassDecl.{ClassDecl}
-use Rattle.ix_annot.specs.Member.TheVariants as m
-use Rattle.ix_annot.specs.AnnotValue.TheVariants as t
-use Rattle.ix_annot.specs.BaseTree.TheVariants as bt
-use Rattle.ix_annot.specs.ExprKind.TheVariants as e
-use Rattle.ix_annot.specs.Init.TheVariants as i
-use Rattle.ix_annot.specs.BinaryOp.TheVariants as bo
-use Rattle.ix_annot.specs.StmtKind.TheVariants as s
+use Rattle.ix_tree.specs.declared.decl.ClassDecl.{ClassDecl}
+use Rattle.ix_tree.specs.declared.decl.Member.TheVariants as m
+use Rattle.ix_tree.specs.declared.annot.AnnotValue.TheVariants as t
+use Rattle.ix_tree.specs.declared.annot.BaseTree.TheVariants as bt
+use Rattle.ix_tree.specs.declared.expr.ExprKind.TheVariants as e
+use Rattle.ix_tree.specs.declared.expr.Init.TheVariants as i
+use Rattle.ix_tree.specs.declared.expr.BinaryOp.TheVariants as bo
+use Rattle.ix_tree.specs.declared.stmt.StmtKind.TheVariants as s
 use Rattle.ix_num.specs.declared.arith.Arith.TheVariants as ar
 use Rattle.ix_meaning.specs.declared.note.Rule.TheVariants as rule
 use Rattle.ix_annot.specs.Expansion.{expanded}

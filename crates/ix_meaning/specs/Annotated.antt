@@ -1,16 +1,16 @@
 -- What the annotations of a declaration give together.
 use Rattle.std.specs.Prelude.{ℕ, ◌==◌, Bool, true, false, not, ◌||◌, if◌then◌else◌, Option, Some, None, Result, Ok, Err, List, [], ◌∷◌, ◌++◌, filter}
 use Rattle.ix_text.specs.declared.span.Span.{Span}
-use Rattle.ix_annot.specs.Annot.{Annot}
-use Rattle.ix_annot.specs.BaseTree.{BaseTree}
-use Rattle.ix_annot.specs.BaseTree.TheVariants.{Int as IntTree, Boolean as BooleanTree, Named}
-use Rattle.ix_annot.specs.TypeTree.{TypeTree}
-use Rattle.ix_annot.specs.Base.TheVariants.{Int, Bool as Boolean, Class}
-use Rattle.ix_annot.specs.Type_.{Type_ as Ty}
-use Rattle.ix_annot.specs.Claim.{Claim}
-use Rattle.ix_annot.specs.Post.{Post}
-use Rattle.ix_annot.specs.Posts.{same_post}
-use Rattle.ix_annot.specs.SameClaims.{distinct}
+use Rattle.ix_tree.specs.declared.annot.Annot.{Annot}
+use Rattle.ix_tree.specs.declared.annot.BaseTree.{BaseTree}
+use Rattle.ix_tree.specs.declared.annot.BaseTree.TheVariants.{Int as IntTree, Boolean as BooleanTree, Named}
+use Rattle.ix_tree.specs.declared.annot.TypeTree.{TypeTree}
+use Rattle.ix_core.specs.declared.claim.Base.TheVariants.{Int, Bool as Boolean, Class}
+use Rattle.ix_core.specs.declared.claim.Type_.{Type_ as Ty}
+use Rattle.ix_core.specs.declared.claim.Claim.{Claim}
+use Rattle.ix_core.specs.declared.claim.Post.{Post}
+use Rattle.ix_core.specs.Posts.{same_post}
+use Rattle.ix_core.specs.SameClaims.{distinct}
 use Rattle.ix_annot.specs.Named.{Names}
 use Rattle.ix_annot.specs.declared.scope.Claims.{Claims}
 use Rattle.ix_annot.specs.declared.scope.AnnotError.{AnnotError}

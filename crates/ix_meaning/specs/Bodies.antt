@@ -1,14 +1,14 @@
 -- What statements say, and which names are in scope behind them (JLS 14, 6.3).
 use Rattle.std.specs.Prelude.{ℕ, ◌+◌, nat_lt, Bool, true, ◌&&◌, if◌then◌else◌, Option, Some, None, is_some, List, [], ◌∷◌, ◌++◌}
 use Rattle.ix_text.specs.declared.span.Span.{Span}
-use Rattle.ix_annot.specs.Ident.{Ident}
-use Rattle.ix_annot.specs.LocalDecl.{LocalDecl}
-use Rattle.ix_annot.specs.Expr.{Expr}
-use Rattle.ix_annot.specs.Init.{Init}
-use Rattle.ix_annot.specs.Stmt.{Stmt, Stmt-F, fold-Stmt}
-use Rattle.ix_annot.specs.StmtKind.{StmtKind, StmtKind-F, fold-StmtKind}
-use Rattle.ix_annot.specs.Name.TheVariants as name
-use Rattle.ix_annot.specs.Type_.{Type_ as Ty}
+use Rattle.ix_tree.specs.declared.annot.Ident.{Ident}
+use Rattle.ix_tree.specs.declared.decl.LocalDecl.{LocalDecl}
+use Rattle.ix_tree.specs.declared.expr.Expr.{Expr}
+use Rattle.ix_tree.specs.declared.expr.Init.{Init}
+use Rattle.ix_tree.specs.declared.stmt.Stmt.{Stmt, Stmt-F, fold-Stmt}
+use Rattle.ix_tree.specs.declared.stmt.StmtKind.{StmtKind, StmtKind-F, fold-StmtKind}
+use Rattle.ix_core.specs.declared.claim.Name.TheVariants as name
+use Rattle.ix_core.specs.declared.claim.Type_.{Type_ as Ty}
 use Rattle.ix_annot.specs.Named.{Names}
 use Rattle.ix_annot.specs.declared.scope.Claims.{Claims}
 use Rattle.ix_meaning.specs.declared.note.Meaning.TheVariants.{Local}

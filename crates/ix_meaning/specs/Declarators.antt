@@ -1,9 +1,9 @@
 -- The declarators of one declaration (JLS 8.3, 14.4): its annotations stand for all of them.
 use Rattle.std.specs.Prelude.{nat_lt, Bool, false, if◌then◌else◌, Option, Some, None, List, [], ◌∷◌, map, filter}
-use Rattle.ix_annot.specs.Annot.{Annot}
-use Rattle.ix_annot.specs.LocalDecl.{LocalDecl}
-use Rattle.ix_annot.specs.Member.{Member}
-use Rattle.ix_annot.specs.Member.TheVariants as member
+use Rattle.ix_tree.specs.declared.annot.Annot.{Annot}
+use Rattle.ix_tree.specs.declared.decl.LocalDecl.{LocalDecl}
+use Rattle.ix_tree.specs.declared.decl.Member.{Member}
+use Rattle.ix_tree.specs.declared.decl.Member.TheVariants as member
 use Rattle.ix_annot.specs.Table.{counted}
 use Rattle.ix_meaning.specs.Listed.{same_span}
 

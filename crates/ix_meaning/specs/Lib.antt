@@ -17,19 +17,6 @@ pub mod Subclasses
 -- Passed on from ix_annot.
 pub use Rattle.ix_annot.specs.Expansion
 pub use Rattle.ix_annot.specs.Table
-pub use Rattle.ix_annot.specs.Type_
-pub use Rattle.ix_annot.specs.Expr
-pub use Rattle.ix_annot.specs.ExprKind
-pub use Rattle.ix_annot.specs.Init
-pub use Rattle.ix_annot.specs.ClassDecl
-pub use Rattle.ix_annot.specs.LocalDecl
-pub use Rattle.ix_annot.specs.Member
-pub use Rattle.ix_annot.specs.MethodDecl
-pub use Rattle.ix_annot.specs.Stmt
-pub use Rattle.ix_annot.specs.StmtKind
-pub use Rattle.ix_annot.specs.Ident
-pub use Rattle.ix_annot.specs.BinaryOp
-pub use Rattle.ix_annot.specs.UnaryOp
 pub use Rattle.ix_annot.specs.Named
 pub use Rattle.ix_annot.specs.declared.scope.Target
 pub use Rattle.ix_annot.specs.declared.texts.Naming
@@ -46,6 +33,3 @@ pub use Rattle.ix_annot.specs.declared.scope.AnnotError
 pub use Rattle.ix_annot.specs.Arguments
 pub use Rattle.ix_annot.specs.Texts
 pub use Rattle.ix_annot.specs.declared.scope.Found
--- Passed on from ix_num.
-pub use Rattle.ix_num.specs.declared.arith.Arith
-pub use Rattle.ix_num.specs.declared.rel.Rel

@@ -1,15 +1,15 @@
 -- The counts that are limited, each over the whole source before the next, and the first place that passes one.
 use Rattle.std.specs.Prelude.{ℕ, ◌+◌, nat_lt, if◌then◌else◌, Option, Some, None, option_map, List, [], ◌∷◌, ◌++◌, length, slice_get}
-use Rattle.ix_annot.specs.Annot.{Annot}
-use Rattle.ix_annot.specs.Ident.{Ident}
-use Rattle.ix_annot.specs.TypeTree.{TypeTree}
-use Rattle.ix_annot.specs.ClassDecl.{ClassDecl}
-use Rattle.ix_annot.specs.LocalDecl.{LocalDecl}
-use Rattle.ix_annot.specs.MethodDecl.{MethodDecl}
-use Rattle.ix_annot.specs.Member.{Member}
-use Rattle.ix_annot.specs.Member.TheVariants as member
-use Rattle.ix_annot.specs.Stmt.{Stmt, fold-Stmt}
-use Rattle.ix_annot.specs.StmtKind.{StmtKind-F}
+use Rattle.ix_tree.specs.declared.annot.Annot.{Annot}
+use Rattle.ix_tree.specs.declared.annot.Ident.{Ident}
+use Rattle.ix_tree.specs.declared.annot.TypeTree.{TypeTree}
+use Rattle.ix_tree.specs.declared.decl.ClassDecl.{ClassDecl}
+use Rattle.ix_tree.specs.declared.decl.LocalDecl.{LocalDecl}
+use Rattle.ix_tree.specs.declared.decl.MethodDecl.{MethodDecl}
+use Rattle.ix_tree.specs.declared.decl.Member.{Member}
+use Rattle.ix_tree.specs.declared.decl.Member.TheVariants as member
+use Rattle.ix_tree.specs.declared.stmt.Stmt.{Stmt, fold-Stmt}
+use Rattle.ix_tree.specs.declared.stmt.StmtKind.{StmtKind-F}
 use Rattle.ix_annot.specs.Named.{or_else}
 use Rattle.ix_annot.specs.Table.{counted, most_claims}
 use Rattle.ix_meaning.specs.declared.note.Which.{Which}

@@ -1,19 +1,19 @@
 -- The fields, methods and constructors of a source (JLS 8.2), each list in the order of the text, and which of them a name means in a class.
 use Rattle.std.specs.Prelude.{ℕ, ◌+◌, ◌==◌, ℤ, neg_ℤ, Bool, not, ◌&&◌, if◌then◌else◌, Option, Some, None, option_map, List, [], ◌∷◌, ◌++◌, map, slice_get, bytes_eq}
 use Rattle.std.specs.Option.{option_and_then}
-use Rattle.ix_annot.specs.Annot.{Annot}
-use Rattle.ix_annot.specs.TypeTree.{TypeTree}
-use Rattle.ix_annot.specs.ClassDecl.{ClassDecl}
-use Rattle.ix_annot.specs.LocalDecl.{LocalDecl}
-use Rattle.ix_annot.specs.MethodDecl.{MethodDecl}
-use Rattle.ix_annot.specs.Member.{Member}
-use Rattle.ix_annot.specs.Member.TheVariants as member
-use Rattle.ix_annot.specs.ExprKind.{ExprKind-F}
-use Rattle.ix_annot.specs.Init.{Init, Init-F, fold-Init}
-use Rattle.ix_annot.specs.UnaryOp.TheVariants.{Minus}
+use Rattle.ix_tree.specs.declared.annot.Annot.{Annot}
+use Rattle.ix_tree.specs.declared.annot.TypeTree.{TypeTree}
+use Rattle.ix_tree.specs.declared.decl.ClassDecl.{ClassDecl}
+use Rattle.ix_tree.specs.declared.decl.LocalDecl.{LocalDecl}
+use Rattle.ix_tree.specs.declared.decl.MethodDecl.{MethodDecl}
+use Rattle.ix_tree.specs.declared.decl.Member.{Member}
+use Rattle.ix_tree.specs.declared.decl.Member.TheVariants as member
+use Rattle.ix_tree.specs.declared.expr.ExprKind.{ExprKind-F}
+use Rattle.ix_tree.specs.declared.expr.Init.{Init, Init-F, fold-Init}
+use Rattle.ix_tree.specs.declared.expr.UnaryOp.TheVariants.{Minus}
 use Rattle.ix_num.specs.Arithmetic.{wrap_of}
-use Rattle.ix_annot.specs.Type_.{Type_ as Ty}
-use Rattle.ix_annot.specs.Type_.TheVariants.{Void}
+use Rattle.ix_core.specs.declared.claim.Type_.{Type_ as Ty}
+use Rattle.ix_core.specs.declared.claim.Type_.TheVariants.{Void}
 use Rattle.ix_meaning.specs.declared.note.Meaning.{Meaning}
 use Rattle.ix_meaning.specs.declared.note.Meaning.TheVariants.{FieldNamed, Constant}
 use Rattle.ix_meaning.specs.declared.members.Field.{Field}

@@ -1,8 +1,8 @@
 -- What `resolve` answers.
 use Rattle.std.specs.Prelude.{◌≡◌, ◌⊎◌, ◌≢◌, Bool, if◌then◌else◌, Option, Some, None, List, [], ◌∷◌}
 use Rattle.ix_text.specs.declared.span.Span.{Span}
-use Rattle.ix_annot.specs.Unit.{Unit as Source}
-use Rattle.ix_annot.specs.Type_.{Type_ as Ty}
+use Rattle.ix_tree.specs.declared.decl.Unit.{Unit as Source}
+use Rattle.ix_core.specs.declared.claim.Type_.{Type_ as Ty}
 use Rattle.ix_meaning.specs.declared.note.Meaning.{Meaning}
 use Rattle.ix_meaning.specs.declared.note.Declared.{Declared}
 use Rattle.ix_meaning.specs.declared.note.Note.{Note}

@@ -1,7 +1,7 @@
 -- The rules on names and types. Each is one definition, and the other files only say where it is asked.
 use Rattle.std.specs.Prelude.{ℕ, ◌==◌, Bool, true, false, not, ◌&&◌, ◌||◌, Option, Some, None, is_some, List, [], ◌∷◌}
 use Rattle.ix_text.specs.declared.span.Span.{Span}
-use Rattle.ix_annot.specs.Type_.{Type_ as Ty}
+use Rattle.ix_core.specs.declared.claim.Type_.{Type_ as Ty}
 use Rattle.ix_meaning.specs.declared.note.Meaning.{Meaning}
 use Rattle.ix_meaning.specs.declared.note.Note.{Note}
 use Rattle.ix_meaning.specs.declared.note.Rule.TheVariants as rule

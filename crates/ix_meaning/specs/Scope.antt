@@ -1,9 +1,9 @@
 -- What names mean at a place (JLS 6.3, 6.4).
 use Rattle.std.specs.Prelude.{ℕ, ◌==◌, Bool, false, not, ◌&&◌, if◌then◌else◌, Option, Some, None, List, [], ◌∷◌, bytes_eq}
-use Rattle.ix_annot.specs.Name.{Name}
-use Rattle.ix_annot.specs.Type_.{Type_ as Ty}
-use Rattle.ix_annot.specs.Type_.TheVariants.{Void}
-use Rattle.ix_annot.specs.Name.TheVariants as name
+use Rattle.ix_core.specs.declared.claim.Name.{Name}
+use Rattle.ix_core.specs.declared.claim.Type_.{Type_ as Ty}
+use Rattle.ix_core.specs.declared.claim.Type_.TheVariants.{Void}
+use Rattle.ix_core.specs.declared.claim.Name.TheVariants as name
 use Rattle.ix_annot.specs.declared.scope.Found.{Found}
 use Rattle.ix_annot.specs.declared.texts.Naming.{Naming}
 use Rattle.ix_annot.specs.declared.texts.Naming.TheVariants.{Parameter, OfThis, Variable}

@@ -2,17 +2,17 @@
 use Rattle.std.specs.Prelude.{ℕ, ◌+◌, nat_lt, Bool, true, false, not, ◌&&◌, ◌||◌, if◌then◌else◌, Option, Some, None, is_some, List, [], ◌∷◌, ◌++◌, map, length, bytes_eq}
 use Rattle.std.specs.List.{list_any}
 use Rattle.ix_text.specs.declared.span.Span.{Span}
-use Rattle.ix_annot.specs.Annot.{Annot}
-use Rattle.ix_annot.specs.Ident.{Ident}
-use Rattle.ix_annot.specs.TypeTree.{TypeTree}
-use Rattle.ix_annot.specs.ClassDecl.{ClassDecl}
-use Rattle.ix_annot.specs.LocalDecl.{LocalDecl}
-use Rattle.ix_annot.specs.MethodDecl.{MethodDecl}
-use Rattle.ix_annot.specs.Member.{Member}
-use Rattle.ix_annot.specs.Member.TheVariants as member
-use Rattle.ix_annot.specs.Expr.{Expr}
-use Rattle.ix_annot.specs.Name.TheVariants as name
-use Rattle.ix_annot.specs.Type_.TheVariants.{Void}
+use Rattle.ix_tree.specs.declared.annot.Annot.{Annot}
+use Rattle.ix_tree.specs.declared.annot.Ident.{Ident}
+use Rattle.ix_tree.specs.declared.annot.TypeTree.{TypeTree}
+use Rattle.ix_tree.specs.declared.decl.ClassDecl.{ClassDecl}
+use Rattle.ix_tree.specs.declared.decl.LocalDecl.{LocalDecl}
+use Rattle.ix_tree.specs.declared.decl.MethodDecl.{MethodDecl}
+use Rattle.ix_tree.specs.declared.decl.Member.{Member}
+use Rattle.ix_tree.specs.declared.decl.Member.TheVariants as member
+use Rattle.ix_tree.specs.declared.expr.Expr.{Expr}
+use Rattle.ix_core.specs.declared.claim.Name.TheVariants as name
+use Rattle.ix_core.specs.declared.claim.Type_.TheVariants.{Void}
 use Rattle.ix_annot.specs.declared.scope.Target.{Target}
 use Rattle.ix_annot.specs.declared.scope.Target.TheVariants as on
 use Rattle.ix_meaning.specs.declared.note.Meaning.{Meaning}

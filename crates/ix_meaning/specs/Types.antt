@@ -1,12 +1,12 @@
 -- Types (JLS 4), what a place needs, and what a part of the tree says: its type and its notes, in the order of the text.
 use Rattle.std.specs.Prelude.{ℕ, ◌-◌, ◌==◌, nat_lt, Bool, true, false, ◌&&◌, ◌||◌, if◌then◌else◌, Option, Some, None, List, [], ◌∷◌, ◌++◌}
 use Rattle.ix_text.specs.declared.span.Span.{Span}
-use Rattle.ix_annot.specs.Base.{Base}
-use Rattle.ix_annot.specs.Base.TheVariants.{Int, Bool as Boolean, Class}
-use Rattle.ix_annot.specs.Type_.{Type_ as Ty}
-use Rattle.ix_annot.specs.Type_.TheVariants.{Void, Plain, Array}
-use Rattle.ix_annot.specs.Claim.{Claim}
-use Rattle.ix_annot.specs.SameClaims.{same_claim}
+use Rattle.ix_core.specs.declared.claim.Base.{Base}
+use Rattle.ix_core.specs.declared.claim.Base.TheVariants.{Int, Bool as Boolean, Class}
+use Rattle.ix_core.specs.declared.claim.Type_.{Type_ as Ty}
+use Rattle.ix_core.specs.declared.claim.Type_.TheVariants.{Void, Plain, Array}
+use Rattle.ix_core.specs.declared.claim.Claim.{Claim}
+use Rattle.ix_core.specs.SameClaims.{same_claim}
 use Rattle.ix_meaning.specs.Classes.{is_among}
 use Rattle.ix_meaning.specs.declared.note.Rule.{Rule}
 use Rattle.ix_meaning.specs.declared.note.Note.{Note}

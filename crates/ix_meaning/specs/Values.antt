@@ -3,21 +3,21 @@ use Rattle.std.specs.Prelude.{ℕ, Bool, true, false, not, ◌||◌, if◌then�
 use Rattle.ix_text.specs.declared.span.Span.{Span}
 use Rattle.ix_num.specs.declared.Rel.{Rel}
 use Rattle.ix_num.specs.declared.Rel.TheVariants.{Eq, Ne}
-use Rattle.ix_annot.specs.Ident.{Ident}
-use Rattle.ix_annot.specs.TypeTree.{TypeTree}
-use Rattle.ix_annot.specs.Expr.{Expr, Expr-F, fold-Expr}
-use Rattle.ix_annot.specs.ExprKind.{ExprKind, ExprKind-F, fold-ExprKind}
-use Rattle.ix_annot.specs.Init.{Init, Init-F, fold-Init}
-use Rattle.ix_annot.specs.BinaryOp.{BinaryOp}
-use Rattle.ix_annot.specs.BinaryOp.TheVariants.{Num, Compare, AndAlso, OrElse}
-use Rattle.ix_annot.specs.UnaryOp.{UnaryOp}
-use Rattle.ix_annot.specs.UnaryOp.TheVariants.{Not}
-use Rattle.ix_annot.specs.Base.TheVariants.{Class}
-use Rattle.ix_annot.specs.Type_.{Type_ as Ty}
-use Rattle.ix_annot.specs.Type_.TheVariants.{Plain}
+use Rattle.ix_tree.specs.declared.annot.Ident.{Ident}
+use Rattle.ix_tree.specs.declared.annot.TypeTree.{TypeTree}
+use Rattle.ix_tree.specs.declared.expr.Expr.{Expr, Expr-F, fold-Expr}
+use Rattle.ix_tree.specs.declared.expr.ExprKind.{ExprKind, ExprKind-F, fold-ExprKind}
+use Rattle.ix_tree.specs.declared.expr.Init.{Init, Init-F, fold-Init}
+use Rattle.ix_tree.specs.declared.expr.BinaryOp.{BinaryOp}
+use Rattle.ix_tree.specs.declared.expr.BinaryOp.TheVariants.{Num, Compare, AndAlso, OrElse}
+use Rattle.ix_tree.specs.declared.expr.UnaryOp.{UnaryOp}
+use Rattle.ix_tree.specs.declared.expr.UnaryOp.TheVariants.{Not}
+use Rattle.ix_core.specs.declared.claim.Base.TheVariants.{Class}
+use Rattle.ix_core.specs.declared.claim.Type_.{Type_ as Ty}
+use Rattle.ix_core.specs.declared.claim.Type_.TheVariants.{Plain}
 use Rattle.ix_annot.specs.declared.scope.Target.{Target}
 use Rattle.ix_annot.specs.declared.scope.Target.TheVariants as on
-use Rattle.ix_annot.specs.SameClaims.{distinct}
+use Rattle.ix_core.specs.SameClaims.{distinct}
 use Rattle.ix_meaning.specs.declared.note.Meaning.TheVariants.{MethodNamed, ClassNamed, LengthOf}
 use Rattle.ix_meaning.specs.declared.note.Note.{Note}
 use Rattle.ix_meaning.specs.declared.note.Rule.TheVariants as rule

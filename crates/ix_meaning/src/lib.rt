@@ -12,10 +12,7 @@ mod members;
 mod note;
 mod span;
 
-pub use ix_annot::{
-    AnnotError, Claims, Found, Names, Naming, Target, Type_, counted, expand, is_of_method,
-    row_named, same_claim, same_name,
-};
+pub use ix_annot::{is_of_method, same_claim};
 pub use members::{Field, Signature};
 pub use note::{Declared, Meaning, NameError, NameErrors, Note, Rule, Which};
 pub use span::same_span;

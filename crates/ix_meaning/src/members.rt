@@ -1,7 +1,7 @@
 //! The members of classes (JLS 8.2), as the whole source declares them.
 
 use crate::note::Meaning;
-use ix_annot::Type_;
+use ix_core::Type_;
 use ix_text::{List, Span, Text};
 
 /// A field or a constant.

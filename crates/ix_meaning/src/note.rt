@@ -1,6 +1,7 @@
 //! What names mean, which rules are broken, and what a tree says in the order of its text.
 
-use ix_annot::{Claims, Type_};
+use ix_annot::Claims;
+use ix_core::Type_;
 use ix_text::{List, Span};
 
 /// What a use means.

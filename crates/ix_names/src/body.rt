@@ -4,16 +4,15 @@ ghost use Rattle.std.specs.Prelude.{◌≡◌, ◌++◌, ◌+◌, ◌<◌, ◌^�
 ghost use Rattle.ix_meaning.specs.Bodies as spec;
 ghost use Rattle.ix_meaning.specs.Declarators as declared;
 ghost use Rattle.ix_meaning.specs.Rules as rules;
-ghost use Rattle.ix_expression_types.specs.Begun.{Begins};
+ghost use Rattle.ix_class_members.specs.Begun.{Begins};
 ghost use Rattle.ix_expression_types.specs.Here.{here, Extends};
 ghost use Rattle.ix_names.specs.Told.{Told};
 
 use crate::locals::declare;
-use ix_expression_types::{
-    BOOLEAN, Begun, Need, Scopes, World, begin_with, check, further_annotations, own_annotations,
-    value, wrong, wrong_if,
-};
+use ix_class_members::{Begun, World, begin_with, further_annotations, own_annotations};
+use ix_expression_types::{Scopes, check, value, wrong, wrong_if};
 use ix_meaning::{Note, Rule};
+use ix_symbols::{BOOLEAN, Need};
 use ix_text::{List, Span};
 use ix_tree::{Expr, LocalDecl, Stmt, StmtKind};
 use std::alloc::{AllocError, Global};

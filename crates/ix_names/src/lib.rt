@@ -25,8 +25,6 @@ mod places;
 mod resolving;
 
 pub use fields::field;
-pub use ix_class_members::{World, world_of};
-pub use ix_expression_types::{wrong, wrong_if};
 pub use ix_symbols::Table;
 pub use methods::method;
 pub use parents::implicit_super;

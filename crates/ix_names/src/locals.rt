@@ -7,15 +7,13 @@ ghost use Rattle.ix_meaning.specs.Rules.{duplicate_name};
 ghost use Rattle.ix_meaning.specs.Scope.{meant};
 ghost use Rattle.indexmap.specs.IndexMap.{get_by_text};
 ghost use Rattle.ix_names.specs.Added.{AddsLast};
-ghost use Rattle.ix_expression_types.specs.Begun.{annotated};
+ghost use Rattle.ix_class_members.specs.Begun.{annotated};
 ghost use Rattle.ix_expression_types.specs.Here.{here, names, local_known_as, Extends};
 
 use indexmap::IndexMap;
+use ix_class_members::{Annotations, Declaration, World, of_variable, variable};
 use ix_core::{Claim, Name, Type_};
-use ix_expression_types::{
-    Annotations, Declaration, InAnnotation, Local, Scopes, World, fill, note_declared, of_variable,
-    variable, wrong_if,
-};
+use ix_expression_types::{InAnnotation, Local, Scopes, fill, note_declared, wrong_if};
 use ix_meaning::{Note, Rule};
 use ix_text::List;
 use ix_tree::{Ident, Init, LocalDecl};

@@ -13,7 +13,3 @@ pub mod grammar;
 pub mod initialisers;
 pub mod levels;
 pub mod primaries;
-
-pub use ix_parse_base::{
-    annotations, cursor, modifiers, nodes, operators, statement_nodes, type_trees,
-};

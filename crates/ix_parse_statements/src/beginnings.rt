@@ -18,14 +18,14 @@ use ix_grammar::found::Found;
 use ix_grammar_rules::begun::Begun;
 use ix_grammar_rules::stop::Stop;
 use ix_lexer::fixed::{AT, CLOSE_BRACKET, OPEN_BRACKET};
-use ix_parse_expressions::annotations::no_notes;
-use ix_parse_expressions::cursor::Cursor;
+use ix_parse_base::annotations::no_notes;
+use ix_parse_base::cursor::Cursor;
+use ix_parse_base::modifiers::no_mods;
+use ix_parse_base::nodes::{element, named};
+use ix_parse_base::type_trees::{array_of, named_base, noted_array, pairs, plain_type};
 use ix_parse_expressions::expressions::{
     expr, statement_chain, statement_field, statement_name, to_statement,
 };
-use ix_parse_expressions::modifiers::no_mods;
-use ix_parse_expressions::nodes::{element, named};
-use ix_parse_expressions::type_trees::{array_of, named_base, noted_array, pairs, plain_type};
 use ix_tree::Ident;
 use std::alloc::Global;
 

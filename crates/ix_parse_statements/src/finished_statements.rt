@@ -13,9 +13,9 @@ use ix_grammar::found::{Found, FoundDecls, FoundStmt, FoundType};
 use ix_grammar_rules::begun::Begun;
 use ix_grammar_rules::stop::Stop;
 use ix_lexer::fixed::{CLOSE_PAREN, SEMICOLON};
-use ix_parse_expressions::cursor::Cursor;
+use ix_parse_base::cursor::Cursor;
+use ix_parse_base::statement_nodes::{local_stmt, print_stmt, run_stmt};
 use ix_parse_expressions::expressions::expr;
-use ix_parse_expressions::statement_nodes::{local_stmt, print_stmt, run_stmt};
 use ix_text::Span;
 use std::alloc::Global;
 

@@ -4,8 +4,8 @@ ghost use Rattle.ix_grammar_rules.specs.ReadingStatements as spec;
 
 use ix_grammar_rules::stop::Stop;
 use ix_lexer::fixed::{DOT, OPEN_BRACKET, OPEN_PAREN};
-use ix_parse_expressions::cursor::Cursor;
-use ix_parse_expressions::operators::{assign_sign, step_sign};
+use ix_parse_base::cursor::Cursor;
+use ix_parse_base::operators::{assign_sign, step_sign};
 
 /// Why reading stops behind a variable that is too high.
 fn behind_high(cursor: &Cursor<'_>) -> Stop

@@ -16,6 +16,4 @@ pub mod simple_statements;
 pub mod statement_parts;
 pub mod statement_rules;
 
-pub use ix_parse_expressions::{
-    cursor, declarators, expressions, modifiers, statement_nodes, type_trees,
-};
+pub use ix_parse_expressions::{declarators, expressions};

@@ -19,10 +19,10 @@ use ix_grammar::found::{Found, FoundDecls, FoundStmt, FoundType, Several};
 use ix_grammar_rules::begun::Begun;
 use ix_grammar_rules::stop::Stop;
 use ix_lexer::fixed::{CLOSE_PAREN, COMMA, OPEN_PAREN, SEMICOLON};
-use ix_parse_expressions::cursor::Cursor;
+use ix_parse_base::cursor::Cursor;
+use ix_parse_base::nodes::{no_exprs, with_expr};
+use ix_parse_base::statement_nodes::{for_stmt, local_stmt, no_stmts, run_part, with_stmt};
 use ix_parse_expressions::expressions::{expr, statement_expr};
-use ix_parse_expressions::nodes::{no_exprs, with_expr};
-use ix_parse_expressions::statement_nodes::{for_stmt, local_stmt, no_stmts, run_part, with_stmt};
 use ix_text::Span;
 use std::alloc::Global;
 

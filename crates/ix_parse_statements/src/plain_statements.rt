@@ -14,9 +14,9 @@ use crate::printing::{system_part, word};
 use ix_grammar_rules::begun::Begun;
 use ix_grammar_rules::stop::Stop;
 use ix_lexer::fixed::{AT, BOOLEAN, FINAL, INT};
-use ix_parse_expressions::cursor::Cursor;
+use ix_parse_base::cursor::Cursor;
+use ix_parse_base::type_trees::based;
 use ix_parse_expressions::expressions::statement_expr;
-use ix_parse_expressions::type_trees::based;
 use ix_tree::BaseTree;
 use std::alloc::Global;
 

@@ -12,8 +12,8 @@ use ix_grammar::found::Found;
 use ix_grammar_rules::begun::Begun;
 use ix_grammar_rules::stop::Stop;
 use ix_lexer::fixed::{DOT, OPEN_PAREN};
-use ix_parse_expressions::cursor::Cursor;
-use ix_parse_expressions::nodes::{named, selected};
+use ix_parse_base::cursor::Cursor;
+use ix_parse_base::nodes::{named, selected};
 use ix_tree::Ident;
 use std::alloc::Global;
 

@@ -17,12 +17,12 @@ use ix_grammar::found::{At, Found, FoundStmt};
 use ix_grammar::spans::across;
 use ix_grammar_rules::stop::Stop;
 use ix_lexer::fixed::{CLOSE_BRACE, CLOSE_PAREN, ELSE, NEW, OPEN_PAREN, SEMICOLON, WHILE};
-use ix_parse_expressions::cursor::Cursor;
-use ix_parse_expressions::expressions::expr;
-use ix_parse_expressions::statement_nodes::{
+use ix_parse_base::cursor::Cursor;
+use ix_parse_base::statement_nodes::{
     block_stmt, do_stmt, if_else_stmt, if_stmt, no_stmts, return_stmt, stmt_node, throw_stmt,
     while_stmt, with_stmt,
 };
+use ix_parse_expressions::expressions::expr;
 use ix_text::Span;
 use ix_tree::{Ident, StmtKind};
 use std::alloc::Global;

@@ -7,7 +7,7 @@ ghost use Rattle.ix_grammar_rules.specs.Taking.{Follows};
 
 use ix_grammar::found::FoundStmt;
 use ix_grammar_rules::stop::Stop;
-use ix_parse_expressions::cursor::Cursor;
+use ix_parse_base::cursor::Cursor;
 use std::alloc::Global;
 
 /// The rules for statements of a height of at most `left`, with what reads the statements of a lower height. That is told whether the statement

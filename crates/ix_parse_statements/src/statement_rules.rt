@@ -13,8 +13,8 @@ use crate::statement_parts::Statements;
 use ix_grammar::found::FoundStmt;
 use ix_grammar_rules::stop::Stop;
 use ix_lexer::fixed::{BREAK, CONTINUE, DO, FOR, IF, OPEN_BRACE, RETURN, SEMICOLON, THROW, WHILE};
-use ix_parse_expressions::cursor::Cursor;
-use ix_parse_expressions::statement_nodes::stmt_node;
+use ix_parse_base::cursor::Cursor;
+use ix_parse_base::statement_nodes::stmt_node;
 use ix_tree::StmtKind;
 use std::alloc::Global;
 

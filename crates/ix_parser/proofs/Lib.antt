@@ -4,7 +4,3 @@ pub mod Answered
 pub mod Laws
 pub mod OntoFields
 pub mod NextClass
--- Passed on from ix_grammar_rules.
-pub use Rattle.ix_grammar_rules.proofs.OverRules
-pub use Rattle.ix_grammar_rules.proofs.SourceLaws
-pub use Rattle.ix_grammar_rules.proofs.SourceOver

@@ -14,6 +14,4 @@ pub mod parameters;
 mod parse_tree;
 pub mod sources;
 
-pub use ix_grammar::error::ParseError;
-pub use ix_parse_statements::cursor;
 pub use parse_tree::parse;

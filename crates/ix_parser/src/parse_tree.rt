@@ -14,7 +14,7 @@ use crate::sources::source;
 use ix_grammar::error::ParseError;
 use ix_grammar_rules::stop::Stop;
 use ix_lexer::Token;
-use ix_parse_statements::cursor::Cursor;
+use ix_parse_base::cursor::Cursor;
 use ix_tree::Unit;
 use std::alloc::Global;
 

@@ -12,7 +12,7 @@ use crate::class_rules::classes;
 use ix_grammar::classes::{Classes, FoundUnit};
 use ix_grammar_rules::stop::Stop;
 use ix_lexer::fixed::{DOT, IMPORT, PACKAGE, SEMICOLON, STATIC, TIMES};
-use ix_parse_statements::cursor::Cursor;
+use ix_parse_base::cursor::Cursor;
 use ix_tree::Unit;
 use std::alloc::Global;
 

@@ -1,8 +1,8 @@
 -- The variables that a full expression assigns.
 use Rattle.std.specs.Prelude.{ℕ, List, [], ◌∷◌, ◌++◌, map, Option, Some, None}
-use Rattle.ix_meaning.specs.Expr.{Expr, Expr-F, fold-Expr}
-use Rattle.ix_meaning.specs.ExprKind.{ExprKind-F}
-use Rattle.ix_meaning.specs.Init.{Init, Init-F, fold-Init}
+use Rattle.ix_tree.specs.declared.expr.Expr.{Expr, Expr-F, fold-Expr}
+use Rattle.ix_tree.specs.declared.expr.ExprKind.{ExprKind-F}
+use Rattle.ix_tree.specs.declared.expr.Init.{Init, Init-F, fold-Init}
 use Rattle.ix_meaning.specs.declared.note.Meaning.{Meaning}
 use Rattle.ix_meaning.specs.declared.note.Meaning.TheVariants as meaning
 use Rattle.ix_plain.specs.Scope.{Scope, slot_of, meaning_at}

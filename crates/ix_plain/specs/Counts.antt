@@ -3,16 +3,16 @@ use Rattle.std.specs.Prelude.{ℕ, ◌+◌, if◌then◌else◌, List, [], ◌�
 use Rattle.ix_core.specs.declared.code.Block.{Block, Block-F, fold-Block}
 use Rattle.ix_core.specs.declared.code.Cond.{Cond, Cond-F, fold-Cond}
 use Rattle.ix_core.specs.declared.code.Item.{Item, Item-F, fold-Item}
-use Rattle.ix_meaning.specs.ClassDecl.{ClassDecl}
-use Rattle.ix_meaning.specs.LocalDecl.{LocalDecl}
-use Rattle.ix_meaning.specs.Member.{Member}
-use Rattle.ix_meaning.specs.Member.TheVariants as member
-use Rattle.ix_meaning.specs.MethodDecl.{MethodDecl}
-use Rattle.ix_meaning.specs.Expr.{Expr, Expr-F, fold-Expr}
-use Rattle.ix_meaning.specs.ExprKind.{ExprKind-F}
-use Rattle.ix_meaning.specs.Init.{Init, Init-F, fold-Init}
-use Rattle.ix_meaning.specs.Stmt.{Stmt, Stmt-F, fold-Stmt}
-use Rattle.ix_meaning.specs.StmtKind.{StmtKind-F}
+use Rattle.ix_tree.specs.declared.decl.ClassDecl.{ClassDecl}
+use Rattle.ix_tree.specs.declared.decl.LocalDecl.{LocalDecl}
+use Rattle.ix_tree.specs.declared.decl.Member.{Member}
+use Rattle.ix_tree.specs.declared.decl.Member.TheVariants as member
+use Rattle.ix_tree.specs.declared.decl.MethodDecl.{MethodDecl}
+use Rattle.ix_tree.specs.declared.expr.Expr.{Expr, Expr-F, fold-Expr}
+use Rattle.ix_tree.specs.declared.expr.ExprKind.{ExprKind-F}
+use Rattle.ix_tree.specs.declared.expr.Init.{Init, Init-F, fold-Init}
+use Rattle.ix_tree.specs.declared.stmt.Stmt.{Stmt, Stmt-F, fold-Stmt}
+use Rattle.ix_tree.specs.declared.stmt.StmtKind.{StmtKind-F}
 
 -- so many were counted before, and so many are behind
 abbrev pub Count : Type 0

@@ -5,11 +5,11 @@ use Rattle.ix_core.specs.declared.claim.Type_.{Type_}
 use Rattle.ix_core.specs.declared.program.Class.{Class}
 use Rattle.ix_core.specs.declared.program.Field.{Field}
 use Rattle.ix_core.specs.declared.program.Local.{Local}
-use Rattle.ix_meaning.specs.ClassDecl.{ClassDecl}
-use Rattle.ix_meaning.specs.LocalDecl.{LocalDecl}
-use Rattle.ix_meaning.specs.Member.{Member}
-use Rattle.ix_meaning.specs.Member.TheVariants as member
-use Rattle.ix_meaning.specs.MethodDecl.{MethodDecl}
+use Rattle.ix_tree.specs.declared.decl.ClassDecl.{ClassDecl}
+use Rattle.ix_tree.specs.declared.decl.LocalDecl.{LocalDecl}
+use Rattle.ix_tree.specs.declared.decl.Member.{Member}
+use Rattle.ix_tree.specs.declared.decl.Member.TheVariants as member
+use Rattle.ix_tree.specs.declared.decl.MethodDecl.{MethodDecl}
 use Rattle.ix_meaning.specs.Source.{is_constructor, has_constructor}
 use Rattle.ix_meaning.specs.Resolved.{Names}
 use Rattle.ix_plain.specs.declared.body.Head.{Head}

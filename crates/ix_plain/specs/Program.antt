@@ -7,14 +7,14 @@ use Rattle.ix_core.specs.declared.op.OpKind.TheVariants as op
 use Rattle.ix_core.specs.declared.program.Method.{Method}
 use Rattle.ix_core.specs.declared.program.Program.{Program}
 use Rattle.ix_core.specs.Posts.{some_conditional}
-use Rattle.ix_meaning.specs.ClassDecl.{ClassDecl}
-use Rattle.ix_meaning.specs.LocalDecl.{LocalDecl}
-use Rattle.ix_meaning.specs.Member.{Member}
-use Rattle.ix_meaning.specs.Member.TheVariants as member
-use Rattle.ix_meaning.specs.MethodDecl.{MethodDecl}
-use Rattle.ix_meaning.specs.Expr.{Expr}
-use Rattle.ix_meaning.specs.Init.{Init}
-use Rattle.ix_meaning.specs.Stmt.{Stmt}
+use Rattle.ix_tree.specs.declared.decl.ClassDecl.{ClassDecl}
+use Rattle.ix_tree.specs.declared.decl.LocalDecl.{LocalDecl}
+use Rattle.ix_tree.specs.declared.decl.Member.{Member}
+use Rattle.ix_tree.specs.declared.decl.Member.TheVariants as member
+use Rattle.ix_tree.specs.declared.decl.MethodDecl.{MethodDecl}
+use Rattle.ix_tree.specs.declared.expr.Expr.{Expr}
+use Rattle.ix_tree.specs.declared.expr.Init.{Init}
+use Rattle.ix_tree.specs.declared.stmt.Stmt.{Stmt}
 use Rattle.ix_meaning.specs.declared.note.Which.TheVariants as which
 use Rattle.ix_meaning.specs.Classes.{parent}
 use Rattle.ix_meaning.specs.Inheritance.{if_instance, overridden}

@@ -8,12 +8,12 @@ use Rattle.ix_core.specs.declared.code.Cond as cond
 use Rattle.ix_core.specs.declared.code.Item.{Item, If, Break, Continue, Return, Throw, Loop}
 use Rattle.ix_core.specs.declared.op.Literal.TheVariants as literal
 use Rattle.ix_core.specs.declared.op.OpKind.TheVariants as op
-use Rattle.ix_meaning.specs.Ident.{Ident}
-use Rattle.ix_meaning.specs.LocalDecl.{LocalDecl}
-use Rattle.ix_meaning.specs.Expr.{Expr}
-use Rattle.ix_meaning.specs.Init.{Init}
-use Rattle.ix_meaning.specs.Stmt.{Stmt, Stmt-F, fold-Stmt}
-use Rattle.ix_meaning.specs.StmtKind.{StmtKind-F}
+use Rattle.ix_tree.specs.declared.annot.Ident.{Ident}
+use Rattle.ix_tree.specs.declared.decl.LocalDecl.{LocalDecl}
+use Rattle.ix_tree.specs.declared.expr.Expr.{Expr}
+use Rattle.ix_tree.specs.declared.expr.Init.{Init}
+use Rattle.ix_tree.specs.declared.stmt.Stmt.{Stmt, Stmt-F, fold-Stmt}
+use Rattle.ix_tree.specs.declared.stmt.StmtKind.{StmtKind-F}
 use Rattle.ix_meaning.specs.declared.note.Which.TheVariants as which
 use Rattle.ix_plain.specs.declared.body.Body.{Body}
 use Rattle.ix_plain.specs.declared.made.Spot.TheVariants as spot

@@ -2,9 +2,9 @@
 -- numbered upwards from the first slot that is free, and none is used twice in it.
 use Rattle.std.specs.Prelude.{ℕ, ℤ, pos, Bool, if◌then◌else◌, List, [], ◌∷◌, ◌++◌, map, Option, Some, None, Ok}
 use Rattle.ix_text.specs.declared.span.Span.{Span}
-use Rattle.ix_meaning.specs.Arith.{Arith}
-use Rattle.ix_meaning.specs.Arith.TheVariants.{Add, Sub}
-use Rattle.ix_meaning.specs.Rel.{Rel}
+use Rattle.ix_num.specs.declared.arith.Arith.{Arith}
+use Rattle.ix_num.specs.declared.arith.Arith.TheVariants.{Add, Sub}
+use Rattle.ix_num.specs.declared.rel.Rel.{Rel}
 use Rattle.ix_core.specs.declared.claim.Type_.{Type_}
 use Rattle.ix_core.specs.declared.code.Cond as cond
 use Rattle.ix_core.specs.declared.op.Arg.{Arg}
@@ -15,14 +15,14 @@ use Rattle.ix_core.specs.declared.op.OpKind.TheVariants as op
 use Rattle.ix_core.specs.declared.op.UnaryNum.{UnaryNum}
 use Rattle.ix_core.specs.declared.op.UnaryNum.TheVariants as unary
 use Rattle.ix_core.specs.Types.{int_type, cell_type}
-use Rattle.ix_meaning.specs.Ident.{Ident}
-use Rattle.ix_meaning.specs.BinaryOp.{BinaryOp}
-use Rattle.ix_meaning.specs.BinaryOp.TheVariants as binary
-use Rattle.ix_meaning.specs.UnaryOp.{UnaryOp}
-use Rattle.ix_meaning.specs.UnaryOp.TheVariants as operator
-use Rattle.ix_meaning.specs.Expr.{Expr, Expr-F, fold-Expr}
-use Rattle.ix_meaning.specs.ExprKind.{ExprKind-F}
-use Rattle.ix_meaning.specs.Init.{Init, Init-F, fold-Init}
+use Rattle.ix_tree.specs.declared.annot.Ident.{Ident}
+use Rattle.ix_tree.specs.declared.expr.BinaryOp.{BinaryOp}
+use Rattle.ix_tree.specs.declared.expr.BinaryOp.TheVariants as binary
+use Rattle.ix_tree.specs.declared.expr.UnaryOp.{UnaryOp}
+use Rattle.ix_tree.specs.declared.expr.UnaryOp.TheVariants as operator
+use Rattle.ix_tree.specs.declared.expr.Expr.{Expr, Expr-F, fold-Expr}
+use Rattle.ix_tree.specs.declared.expr.ExprKind.{ExprKind-F}
+use Rattle.ix_tree.specs.declared.expr.Init.{Init, Init-F, fold-Init}
 use Rattle.ix_meaning.specs.declared.note.Meaning.{Meaning}
 use Rattle.ix_meaning.specs.declared.note.Meaning.TheVariants as meaning
 use Rattle.ix_plain.specs.declared.body.Head.{Head}

@@ -2,9 +2,9 @@
 use Rattle.std.specs.Prelude.{◌≡◌, ℕ, zero, suc, ◌<◌, ◌≤◌, ◌+◌, List, [], ◌∷◌, length, drop, slice_index_or, refl}
 use Rattle.std.proofs.Common.{arith, add-one, sym, subst}
 use Rattle.std.proofs.Math.Seq.{drop-cons}
-use Rattle.ix_store.specs.Stores.{Stored, IsTold, AreTold, none, next}
-use Rattle.ix_store.specs.Outcome.{Outcome as Told}
-use Rattle.ix_store.specs.OverGroups.{outcome_of, outcomes_of}
+use Rattle.ix_facts.specs.Stores.{Stored, IsTold, AreTold, none, next}
+use Rattle.ix_test_facts.specs.declared.outcome.Outcome.{Outcome as Told}
+use Rattle.ix_test_facts.specs.OverGroups.{outcome_of, outcomes_of}
 
 pub next_told : (told : List Told) (k : ℕ) (d : Told) → k < length told → (first before after : Stored) → ((s : Stored) → AreTold (outcomes_of (drop k told)) before s → AreTold (outcomes_of told) first s) → IsTold (outcome_of (slice_index_or told k d)) before after
     → (s : Stored) → AreTold (outcomes_of (drop (k + 1) told)) after s → AreTold (outcomes_of told) first s

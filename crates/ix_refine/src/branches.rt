@@ -1,11 +1,13 @@
 //! The stores behind a test.
 
 ghost use Rattle.std.specs.Prelude.{true, false, IfOk};
-ghost use Rattle.ix_store.specs.Stores.{AreTold, IsTested};
-ghost use Rattle.ix_store.specs.OverGroups.{outcomes_of};
+ghost use Rattle.ix_facts.specs.Stores.{AreTold, IsTested};
+ghost use Rattle.ix_test_facts.specs.OverGroups.{outcomes_of};
 ghost use Rattle.ix_store.specs.StoredFacts.{stored};
 
-use ix_store::{Outcome, Store, Test, outcomes};
+use ix_core::Test;
+use ix_store::Store;
+use ix_test_facts::{Outcome, outcomes};
 use std::alloc::{AllocError, Global};
 
 fn told_all(alloc: Global, store: Store, told: &[Outcome]) -> Result<Store, AllocError>

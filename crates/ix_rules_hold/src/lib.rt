@@ -12,5 +12,4 @@ mod laws;
 
 pub use calls::call_steps;
 pub use fields::field_steps;
-pub use ix_facts::{is_array, is_int};
 pub use laws::{machine_laws, meaning_laws, stay_laws};

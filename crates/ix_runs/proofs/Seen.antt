@@ -2,7 +2,7 @@
 use Rattle.std.proofs.Common.{◌≡◌, ◌≤◌, ℕ, zero, suc, ◌+◌, ℤ, pos, negsuc, Bool, true, false, List, [], ◌∷◌, ◌++◌, length, append_assoc, append-nil, Option, None, Some, refl, ap, sym, ◌∙◌, subst}
 use Rattle.std.specs.Prelude.{if◌then◌else◌, unsigned_abs}
 use Rattle.std.specs.List.{AllByRecursion}
-use Rattle.ix_core.specs.Arithmetic.{exact_of}
+use Rattle.ix_num.specs.Arithmetic.{exact_of}
 use Rattle.ix_core.specs.declared.claim.Type_.{Type_}
 use Rattle.ix_core.specs.declared.op.OpKind.{OpKind}
 use Rattle.ix_core.specs.declared.op.OpKind.TheVariants as op

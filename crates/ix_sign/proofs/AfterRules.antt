@@ -14,7 +14,7 @@ use Rattle.ix_core.specs.declared.program.Program.{Program}
 use Rattle.ix_core.specs.Tables.{param_slot}
 use Rattle.ix_facts.specs.Stores.{Stored, IsAfter, IsAdded, Gives, operated, with_facts}
 use Rattle.ix_facts.specs.Systems.{HaveClasses}
-use Rattle.ix_signatures.specs.MachineSteps.{own_path}
+use Rattle.ix_rules_hold.specs.MachineSteps.{own_path}
 use Rattle.ix_store.specs.declared.store.Store.{Store}
 use Rattle.ix_store.specs.StoredFacts.{stored}
 use Rattle.ix_signatures.specs.Names.{param_in, variable_at}

@@ -5,8 +5,8 @@ use Rattle.ix_core.specs.declared.fact.Path.{Path}
 use Rattle.ix_core.specs.declared.fact.Path.TheVariants.{Slot, FieldOf}
 use Rattle.ix_core.specs.declared.program.Method.{Method}
 use Rattle.ix_facts.specs.Forget.{of_field, of_call}
-use Rattle.ix_signatures.specs.MachineSteps.{own_slot}
-use Rattle.ix_signatures.specs.FieldAccess.{spared_by}
+use Rattle.ix_rules_hold.specs.MachineSteps.{own_slot}
+use Rattle.ix_rules_hold.specs.FieldAccess.{spared_by}
 use Rattle.ix_store.specs.ChangedPaths.{is_spared}
 use Rattle.ix_signatures.specs.Spared.{this_if}
 

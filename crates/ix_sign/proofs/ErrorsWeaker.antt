@@ -15,7 +15,7 @@ use Rattle.ix_core.specs.declared.op.CallOp.{CallOp}
 use Rattle.ix_core.specs.Tables.{field_at}
 use Rattle.ix_num.specs.Ints.{least_int}
 use Rattle.ix_facts.specs.AfterOperation.{loaded_claims}
-use Rattle.ix_signatures.specs.MachineSteps.{on_paths, own_path}
+use Rattle.ix_rules_hold.specs.MachineSteps.{on_paths, own_path}
 use Rattle.ix_core.specs.declared.fact.Fact.{Fact}
 use Rattle.ix_core.specs.declared.fact.Path.{Path}
 use Rattle.ix_core.specs.declared.fact.PathClaim.{PathClaim}

@@ -10,7 +10,7 @@ use Rattle.ix_core.specs.Tables.{field_at, method_at}
 use Rattle.ix_facts.specs.Exact.{if_so}
 use Rattle.ix_facts.specs.Forget.{without, of_slot, of_field, of_this}
 use Rattle.ix_facts.specs.Stores.{Stored, IsAdded, IsCopied, IsForgotten, Then, with_facts, with_copy}
-use Rattle.ix_signatures.specs.FieldAccess.{spared_by}
+use Rattle.ix_rules_hold.specs.FieldAccess.{spared_by}
 use Rattle.ix_store.specs.ChangedPaths.{is_spared, is_final, of_called, of_parent}
 use Rattle.ix_signatures.specs.Spared.{this_if}
 use Rattle.ix_signatures.specs.Names.{is_built}

@@ -13,16 +13,3 @@ pub use Rattle.ix_signatures.specs.Names
 pub use Rattle.ix_signatures.specs.Naming
 pub use Rattle.ix_signatures.specs.Signs
 pub use Rattle.ix_signatures.specs.SignErrors
-pub use Rattle.ix_signatures.proofs.LeastSteps
-pub use Rattle.ix_signatures.proofs.SignSteps
-pub use Rattle.ix_signatures.proofs.SignClasses
-pub use Rattle.ix_signatures.specs.MachineSteps
--- Passed on from ix_facts.
-pub use Rattle.ix_facts.specs.Stores
-pub use Rattle.ix_facts.specs.Systems
-pub use Rattle.ix_facts.specs.AfterOperation
-pub use Rattle.ix_facts.proofs.StoreLaws
-pub use Rattle.ix_facts.specs.Round
-pub use Rattle.ix_facts.proofs.SaidRules
-pub use Rattle.ix_facts.proofs.StepLaws
-pub use Rattle.ix_facts.specs.MethodLandmarks

@@ -14,7 +14,7 @@ use Rattle.ix_facts.specs.MethodLandmarks.{AreLandmarksOf}
 use Rattle.ix_facts.specs.Round.{rounded}
 use Rattle.ix_facts.specs.Stores.{Stored, Unreachable, IsBelow, Gives, Then, OutcomesGive, operated, outcomes_of}
 use Rattle.ix_flow.specs.Flow.{Rules}
-use Rattle.ix_signatures.specs.MachineSteps.{own_path}
+use Rattle.ix_rules_hold.specs.MachineSteps.{own_path}
 use Rattle.ix_signatures.specs.Names.{variable_at}
 use Rattle.ix_signatures.specs.Signs.{Adds, claims_facts, EntryGives, ReadGives, WriteGives, CallGives, SuperGives, told_facts}
 

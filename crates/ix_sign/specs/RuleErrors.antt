@@ -27,7 +27,7 @@ use Rattle.ix_core.specs.Tables.{body_of, param_slot}
 use Rattle.ix_facts.specs.AfterOperation.{loaded_claims}
 use Rattle.ix_facts.specs.Stores.{Stored}
 use Rattle.ix_flow.specs.Flow.{Point, Doing, Returning, Ending}
-use Rattle.ix_signatures.specs.MachineSteps.{on_paths, own_path}
+use Rattle.ix_rules_hold.specs.MachineSteps.{on_paths, own_path}
 use Rattle.ix_signatures.specs.Names.{variable_at}
 use Rattle.ix_signatures.specs.SignErrors.{Refuses, Unproved, plain, part, ArgumentClaim, ReturnClaim, PostClaim, FieldClaim, FieldDependent, ConstructorClaim, MissingReturn, OverrideErrors, EffectWrite}
 

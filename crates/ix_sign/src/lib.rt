@@ -16,7 +16,6 @@ mod variable;
 mod variables;
 
 pub use entry::enter;
-pub use ix_signatures::Naming;
 pub use ix_store::Store;
 pub use operations::after;
 pub use told::tell;

@@ -6,8 +6,8 @@ use Rattle.ix_core.specs.declared.fact.PathOff.{PathOff}
 use Rattle.ix_core.specs.declared.fact.PathOff.TheVariants.{Nothing, Plus, Minus}
 use Rattle.ix_core.specs.declared.fact.Fact.{Fact}
 use Rattle.ix_core.specs.declared.fact.Fact.TheVariants.{Rng, LenRng, Low, Same, IsLen, Less, Sum, Search, Neg, Upper}
-use Rattle.ix_rules_hold.specs.Forget.{offset_names, names, without}
-use Rattle.ix_rules_hold.specs.Stores.{Stored, Unreachable, Reached, IsStoreOf, IsForgotten}
+use Rattle.ix_facts.specs.Forget.{offset_names, names, without}
+use Rattle.ix_facts.specs.Stores.{Stored, Unreachable, Reached, IsStoreOf, IsForgotten}
 
 module _ (is other : Path → Bool) (alike : (p : Path) → is p ≡ other p) where
   or_alike : (p q : Path) → (is p || is q) ≡ (other p || other q)

@@ -3,10 +3,10 @@ use Rattle.std.specs.Prelude.{List}
 use Rattle.ix_core.specs.declared.fact.Fact.{Fact}
 use Rattle.ix_core.specs.declared.fact.Path.{Path}
 use Rattle.ix_core.specs.declared.fact.PathClaim.{PathClaim}
-use Rattle.ix_rules_hold.specs.Stores.{Stored, IsBelow, IsGiven, Gives, Then, IsStep}
-use Rattle.ix_rules_hold.proofs.SplitLaws.{proved_mono}
-use Rattle.ix_rules_hold.specs.StepLaws.{given_gives, given_least}
-use Rattle.ix_rules_hold.specs.StoreLaws.{below_itself}
+use Rattle.ix_facts.specs.Stores.{Stored, IsBelow, IsGiven, Gives, Then, IsStep}
+use Rattle.ix_facts.proofs.SplitLaws.{proved_mono}
+use Rattle.ix_facts.proofs.StepLaws.{given_gives, given_least}
+use Rattle.ix_facts.proofs.StoreLaws.{below_itself}
 use Rattle.ix_signatures.specs.Signs.{IsLeastOf}
 use Rattle.ix_signatures.specs.SignErrors.{Refuses, AllRefuse}
 

@@ -19,12 +19,12 @@ use Rattle.ix_core.specs.declared.program.Method.{Method}
 use Rattle.ix_core.specs.declared.program.Program.{Program}
 use Rattle.ix_core.specs.Posts.{same_when}
 use Rattle.ix_core.specs.Tables.{field_at, method_at, param_slot}
-use Rattle.ix_rules_hold.specs.AfterOperation.{is_int, is_array}
-use Rattle.ix_rules_hold.specs.Assume.{claim_facts}
-use Rattle.ix_rules_hold.specs.Exact.{if_so}
-use Rattle.ix_rules_hold.specs.Systems.{HasClass, HaveClasses}
-use Rattle.ix_rules_hold.proofs.ClassesStay.{claim_classes}
-use Rattle.ix_rules_hold.proofs.FactLists.{in_either}
+use Rattle.ix_facts.specs.AfterOperation.{is_int, is_array}
+use Rattle.ix_facts.specs.Assume.{claim_facts}
+use Rattle.ix_facts.specs.Exact.{if_so}
+use Rattle.ix_facts.specs.Systems.{HasClass, HaveClasses}
+use Rattle.ix_facts.proofs.ClassesStay.{claim_classes}
+use Rattle.ix_facts.proofs.FactLists.{in_either}
 use Rattle.ix_rules_hold.specs.MachineSteps.{on_paths, own_path}
 use Rattle.ix_signatures.specs.Names.{call_path, object_path, names_field}
 use Rattle.ix_signatures.specs.Signs.{claims_facts, params_facts, received, received_params, zero_facts, zero_fields, fields_facts, dependent_facts, read_facts, write_facts, entry_facts, own_fields, posts_facts, result_facts, answer_facts, told_by_call, told_by, told_facts}

@@ -8,13 +8,13 @@ use Rattle.ix_core.specs.declared.fact.Fact.{Fact}
 use Rattle.ix_core.specs.declared.program.Method.{Method}
 use Rattle.ix_core.specs.declared.program.Program.{Program}
 use Rattle.ix_core.specs.Tables.{field_at}
-use Rattle.ix_rules_hold.specs.Closure.{kept}
-use Rattle.ix_rules_hold.specs.Exact.{if_so}
-use Rattle.ix_rules_hold.specs.Forget.{without, of_field, of_this}
-use Rattle.ix_rules_hold.specs.Stores.{Stored, Then, IsStep, IsMonotone, with_facts, with_copy}
-use Rattle.ix_rules_hold.specs.SaidLaws.{says_app}
-use Rattle.ix_rules_hold.specs.SaidRules.{without_mono, with_copy_mono}
-use Rattle.ix_rules_hold.specs.StepLaws.{gives_step, then_step}
+use Rattle.ix_facts.specs.Closure.{kept}
+use Rattle.ix_facts.specs.Exact.{if_so}
+use Rattle.ix_facts.specs.Forget.{without, of_field, of_this}
+use Rattle.ix_facts.specs.Stores.{Stored, Then, IsStep, IsMonotone, with_facts, with_copy}
+use Rattle.ix_facts.proofs.SaidLaws.{says_app}
+use Rattle.ix_facts.proofs.SaidRules.{without_mono, with_copy_mono}
+use Rattle.ix_facts.proofs.StepLaws.{gives_step, then_step}
 use Rattle.ix_rules_hold.specs.FieldAccess.{spared_by}
 use Rattle.ix_signatures.specs.Names.{is_built}
 use Rattle.ix_signatures.specs.Signs.{Adds, Forgets, Copies, read_facts, write_facts, of_callee, result_facts, told_facts, zero_fields, own_fields, fields_facts, inherited_fields}

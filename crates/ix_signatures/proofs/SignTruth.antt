@@ -8,18 +8,18 @@ use Rattle.ix_core.specs.declared.fact.Fact.{Fact}
 use Rattle.ix_core.specs.declared.program.Method.{Method}
 use Rattle.ix_core.specs.declared.program.Program.{Program}
 use Rattle.ix_core.specs.Numbers.{Numbers}
-use Rattle.ix_rules_hold.specs.Closure.{kept}
-use Rattle.ix_rules_hold.specs.Exact.{if_so}
-use Rattle.ix_rules_hold.specs.Facts.{AllHold}
-use Rattle.ix_rules_hold.specs.Forget.{SameBut, without, of_path}
-use Rattle.ix_rules_hold.specs.Laws.{Alike}
-use Rattle.ix_rules_hold.specs.Stores.{Stored, Reached, Meets, with_facts, with_copy}
-use Rattle.ix_rules_hold.proofs.AfterLaws.{copy_hold}
-use Rattle.ix_rules_hold.proofs.ClosureLaws.{kept_hold}
-use Rattle.ix_rules_hold.proofs.FactLists.{all_hold_app}
-use Rattle.ix_rules_hold.proofs.Frame.{without_stays, without_holds}
-use Rattle.ix_rules_hold.specs.StepLaws.{gives_meets}
-use Rattle.ix_rules_hold.proofs.StoresHold.{proved_meets}
+use Rattle.ix_facts.specs.Closure.{kept}
+use Rattle.ix_facts.specs.Exact.{if_so}
+use Rattle.ix_facts.specs.Facts.{AllHold}
+use Rattle.ix_facts.specs.Forget.{SameBut, without, of_path}
+use Rattle.ix_facts.specs.Laws.{Alike}
+use Rattle.ix_facts.specs.Stores.{Stored, Reached, Meets, with_facts, with_copy}
+use Rattle.ix_facts.proofs.AfterLaws.{copy_hold}
+use Rattle.ix_facts.proofs.ClosureLaws.{kept_hold}
+use Rattle.ix_facts.proofs.FactLists.{all_hold_app}
+use Rattle.ix_facts.proofs.Frame.{without_stays, without_holds}
+use Rattle.ix_facts.proofs.StepLaws.{gives_meets}
+use Rattle.ix_facts.proofs.StoresHold.{proved_meets}
 use Rattle.ix_signatures.specs.Names.{is_built}
 use Rattle.ix_signatures.specs.Signs.{Adds, Forgets, Copies, entry_facts, read_facts, write_facts}
 use Rattle.ix_signatures.specs.SignLaws.{SignsHold}

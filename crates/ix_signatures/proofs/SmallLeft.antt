@@ -6,8 +6,8 @@ use Rattle.ix_core.specs.declared.claim.Name.{Name}
 use Rattle.ix_core.specs.declared.claim.Post.{Post}
 use Rattle.ix_core.specs.declared.fact.Path.{Path}
 use Rattle.ix_core.proofs.Cases.{by_test}
-use Rattle.ix_rules_hold.specs.Assume.{claim_facts}
-use Rattle.ix_rules_hold.specs.Exact.{if_so}
+use Rattle.ix_facts.specs.Assume.{claim_facts}
+use Rattle.ix_facts.specs.Exact.{if_so}
 use Rattle.ix_rules_hold.specs.MachineSteps.{on_paths}
 use Rattle.ix_signatures.specs.Naming.{AreSmallClaims, AreSmallPosts}
 use Rattle.ix_signatures.specs.Signs.{claims_facts}

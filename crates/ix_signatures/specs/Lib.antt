@@ -10,4 +10,3 @@ pub mod SignErrors
 pub mod SignLaws
 -- Passed on from ix_rules_hold.
 pub use Rattle.ix_rules_hold.specs.MachineSteps
-pub use Rattle.ix_rules_hold.specs.FieldAccess

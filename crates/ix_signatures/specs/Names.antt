@@ -1,6 +1,6 @@
 -- Names as paths at a call and of an object, and the variable that an assignment goes into (JLS 6.3, 15.12.4, 15.26).
 use Rattle.std.specs.Prelude.{ℕ, suc, Bool, false, if◌then◌else◌, not, nat_lt, ◌&&◌, ◌||◌, ◌==◌, List, [], ◌∷◌, slice_get, option_map, unwrap_or, Option, None, Some}
-use Rattle.ix_core.specs.Span.{Span}
+use Rattle.ix_text.specs.declared.span.Span.{Span}
 use Rattle.ix_core.specs.declared.claim.Claim.{Claim}
 use Rattle.ix_core.specs.declared.claim.Name.{Name}
 use Rattle.ix_core.specs.declared.claim.Name.TheVariants.{Param, Local, FieldNamed}

@@ -2,7 +2,7 @@
 -- declaration, by which errors of one place, rule and subject are ordered. A claim that isn't proved is an error (Checker Framework manual, "How the
 -- checker framework works": an assignment, an argument, a result whose annotation isn't met).
 use Rattle.std.specs.Prelude.{◌≡◌, ◌⊎◌, ℕ, Bool, true, false, not, ◌&&◌, ◌||◌, ◌==◌, List, slice_get, unwrap_or, Option, None, Some, ◌++◌}
-use Rattle.ix_core.specs.Span.{Span}
+use Rattle.ix_text.specs.declared.span.Span.{Span}
 use Rattle.ix_core.specs.declared.claim.Claim.{Claim}
 use Rattle.ix_core.specs.declared.claim.Name.{Name}
 use Rattle.ix_core.specs.declared.claim.Name.TheVariants as name
@@ -25,8 +25,8 @@ use Rattle.ix_core.specs.declared.program.Program.{Program}
 use Rattle.ix_core.specs.Posts.{same_answer}
 use Rattle.ix_core.specs.Types.{is_void}
 use Rattle.ix_core.specs.Tables.{method_at, field_at, all_fields, param_slot, param_slots}
-use Rattle.ix_rules_hold.specs.Forget.{of_slot, of_call}
-use Rattle.ix_rules_hold.specs.Stores.{Stored, Unreachable, Reached, IsAbove, IsProved, Then}
+use Rattle.ix_facts.specs.Forget.{of_slot, of_call}
+use Rattle.ix_facts.specs.Stores.{Stored, Unreachable, Reached, IsAbove, IsProved, Then}
 use Rattle.ix_rules_hold.specs.MachineSteps.{on_paths, own_path}
 use Rattle.ix_signatures.specs.Names.{call_path, object_path, written_path, is_built, names_field}
 use Rattle.ix_signatures.specs.Signs.{Adds, Forgets, write_facts, params_facts, received_params, received, claims_facts}

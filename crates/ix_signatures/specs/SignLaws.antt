@@ -8,11 +8,11 @@ use Rattle.ix_core.specs.declared.op.Op.{Op}
 use Rattle.ix_core.specs.declared.program.Method.{Method}
 use Rattle.ix_core.specs.declared.program.Program.{Program}
 use Rattle.ix_core.specs.Numbers.{Numbers}
-use Rattle.ix_rules_hold.specs.Assume.{ClaimHolds}
-use Rattle.ix_rules_hold.specs.Facts.{AllHold}
-use Rattle.ix_rules_hold.specs.FieldSteps.{IsRead, IsWritten}
-use Rattle.ix_rules_hold.specs.Forget.{SameBut, of_slot, of_this}
-use Rattle.ix_rules_hold.specs.Stores.{Stored, Meets, IsProved, IsStep}
+use Rattle.ix_facts.specs.Assume.{ClaimHolds}
+use Rattle.ix_facts.specs.Facts.{AllHold}
+use Rattle.ix_facts.specs.FieldSteps.{IsRead, IsWritten}
+use Rattle.ix_facts.specs.Forget.{SameBut, of_slot, of_this}
+use Rattle.ix_facts.specs.Stores.{Stored, Meets, IsProved, IsStep}
 use Rattle.ix_rules_hold.specs.FieldAccess.{spared_by}
 use Rattle.ix_signatures.specs.Names.{is_built}
 use Rattle.ix_signatures.specs.Signs.{Adds, EntryGives, entry_facts, ReadGives, read_facts, WriteGives, write_facts, CallGives, SuperGives, of_callee, result_facts, told_facts, zero_fields, own_fields, fields_facts, inherited_fields}

@@ -20,11 +20,11 @@ use Rattle.ix_core.specs.declared.program.Program.{Program}
 use Rattle.ix_core.specs.Posts.{same_when}
 use Rattle.ix_core.specs.Tables.{method_at, class_at, field_at, all_fields, param_slot}
 use Rattle.ix_core.specs.Types.{is_void}
-use Rattle.ix_rules_hold.specs.AfterOperation.{is_int, is_array}
-use Rattle.ix_rules_hold.specs.Assume.{claim_facts}
-use Rattle.ix_rules_hold.specs.Exact.{if_so}
-use Rattle.ix_rules_hold.specs.Forget.{without, of_slot, of_field, of_call, of_this}
-use Rattle.ix_rules_hold.specs.Stores.{Stored, IsBelow, IsAbove, Gives, Then, with_facts, with_copy}
+use Rattle.ix_facts.specs.AfterOperation.{is_int, is_array}
+use Rattle.ix_facts.specs.Assume.{claim_facts}
+use Rattle.ix_facts.specs.Exact.{if_so}
+use Rattle.ix_facts.specs.Forget.{without, of_slot, of_field, of_call, of_this}
+use Rattle.ix_facts.specs.Stores.{Stored, IsBelow, IsAbove, Gives, Then, with_facts, with_copy}
 use Rattle.ix_rules_hold.specs.MachineSteps.{on_paths, own_path, own_slot}
 use Rattle.ix_rules_hold.specs.FieldAccess.{spared_by}
 use Rattle.ix_signatures.specs.Names.{call_path, object_path, is_built, names_field}

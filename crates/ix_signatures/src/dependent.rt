@@ -3,8 +3,8 @@
 ghost use Rattle.std.specs.Prelude.{◌≡◌, ◌++◌, ◌==◌, filter, not, OnOk};
 ghost use Rattle.ix_core.specs.Objects.{claim_names, offset_names};
 ghost use Rattle.ix_core.specs.declared.fact.Path.TheVariants.{FieldOf};
-ghost use Rattle.ix_rules_hold.specs.Assume.{claim_facts};
-ghost use Rattle.ix_rules_hold.specs.Exact.{if_so};
+ghost use Rattle.ix_facts.specs.Assume.{claim_facts};
+ghost use Rattle.ix_facts.specs.Exact.{if_so};
 ghost use Rattle.ix_rules_hold.specs.MachineSteps.{on_paths};
 ghost use Rattle.ix_signatures.specs.Names as names;
 ghost use Rattle.ix_signatures.specs.Names.{object_path, some_field};

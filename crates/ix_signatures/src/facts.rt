@@ -6,14 +6,14 @@ ghost use Rattle.ix_core.specs.Tables.{field_at, param_slot as slot_of};
 ghost use Rattle.ix_rules_hold.specs.MachineSteps.{own_path};
 ghost use Rattle.ix_signatures.specs.Names.{object_path};
 ghost use Rattle.ix_signatures.specs.Naming.{path_by, AreSmallClaims, HasSmallNames, HaveSmallNames};
-ghost use Rattle.ix_rules_hold.specs.AfterOperation.{is_int as is_int_type, is_array as is_array_type};
+ghost use Rattle.ix_facts.specs.AfterOperation.{is_int as is_int_type, is_array as is_array_type};
 ghost use Rattle.ix_signatures.specs.Signs as signs;
 ghost use Rattle.ix_signatures.specs.Signs.{claims_facts, params_facts, received_params, zero_facts, zero_fields, fields_facts};
 
 use crate::naming::Naming;
 use crate::paths::param_slot;
 use ix_core::{Claim, Fact, Local, Method, Path, Program, Type_};
-use ix_rules_hold::{is_array, is_int};
+use ix_facts::{is_array, is_int};
 use ix_transfer_rules::{push_claim, push_if};
 use std::alloc::AllocError;
 

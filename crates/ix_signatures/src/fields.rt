@@ -1,7 +1,7 @@
 //! What is known of an object where its fields are read and written.
 
 ghost use Rattle.std.specs.Prelude.{◌≡◌, ◌&&◌, ◌==◌, not, IfOk};
-ghost use Rattle.ix_rules_hold.specs.Exact.{if_so};
+ghost use Rattle.ix_facts.specs.Exact.{if_so};
 ghost use Rattle.ix_signatures.specs.Names as names;
 ghost use Rattle.ix_signatures.specs.Naming.{HaveSmallNames};
 ghost use Rattle.ix_signatures.specs.Signs.{read_facts, write_facts};

@@ -24,7 +24,6 @@ pub use facts::{
     push_zero_fields,
 };
 pub use fields::{facts_at_read, facts_at_write, is_built, spared_at_write, this_if};
-pub use ix_core::instance_fields;
 pub use naming::Naming;
 pub use overriding::{asked_facts, called_facts, own_result, result_slot};
 pub use paths::param_slot;

@@ -3,8 +3,8 @@
 ghost use Rattle.std.specs.Prelude.{◌≡◌, ◌++◌, OnOk};
 ghost use Rattle.ix_core.specs.Objects.{post_names};
 ghost use Rattle.ix_core.specs.Posts.{same_when};
-ghost use Rattle.ix_rules_hold.specs.Assume.{claim_facts};
-ghost use Rattle.ix_rules_hold.specs.Exact.{if_so};
+ghost use Rattle.ix_facts.specs.Assume.{claim_facts};
+ghost use Rattle.ix_facts.specs.Exact.{if_so};
 ghost use Rattle.ix_rules_hold.specs.MachineSteps.{on_paths};
 ghost use Rattle.ix_signatures.specs.Naming.{path_by, AreSmallNames, AreSmallPosts};
 ghost use Rattle.ix_signatures.specs.Signs.{posts_facts};

@@ -32,7 +32,7 @@ use Rattle.ix_facts.specs.AfterOperation.{loaded_claims}
 use Rattle.ix_facts.specs.Assume.{ClaimHolds}
 use Rattle.ix_facts.specs.Stores.{Stored, Meets}
 use Rattle.ix_rules_hold.specs.MachineSteps.{on_paths}
-use Rattle.ix_sign.specs.SignErrors.{Refuses, plain}
+use Rattle.ix_signatures.specs.SignErrors.{Refuses, plain}
 use Rattle.ix_sign.specs.RuleErrors.{AccessLow, AccessHigh, LengthNegative, ElementClaim, FreshElement, zero_meets, no_path}
 use Rattle.ix_soundness.proofs.ClaimTruths.{EachHolds, none_fails}
 use Rattle.ix_soundness.proofs.Stable.{unrefused}

@@ -25,7 +25,7 @@ use Rattle.ix_core.proofs.LawsAreSafe.{types_in}
 use Rattle.ix_facts.specs.Exact.{if_so}
 use Rattle.ix_facts.specs.Facts.{AllHold}
 use Rattle.ix_facts.specs.Stores.{Stored, Meets}
-use Rattle.ix_sign.specs.Signs.{CallGives, answer_facts, told_by}
+use Rattle.ix_signatures.specs.Signs.{CallGives, answer_facts, told_by}
 use Rattle.ix_soundness.specs.Direct.{direct}
 use Rattle.ix_soundness.specs.Known.{Known, Anything, Here, Behind, CallsWell, call_op, LastHolds, BehindGives, stage_behind, call_of, MeetsHere, HoldsFor}
 use Rattle.ix_soundness.specs.Making.{Stage, Plain, Making, with_types, StageHolds}

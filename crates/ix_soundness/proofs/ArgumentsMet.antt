@@ -25,8 +25,8 @@ use Rattle.ix_core.proofs.Entered.{reading_later}
 use Rattle.ix_core.proofs.Waiting.{later_refl, later_push}
 use Rattle.ix_facts.specs.Stores.{Stored, Meets}
 use Rattle.ix_rules_hold.specs.MachineSteps.{on_paths, reading_at}
-use Rattle.ix_sign.specs.Names.{arg_slot, call_path}
-use Rattle.ix_sign.specs.SignErrors.{Refuses, ArgumentClaim}
+use Rattle.ix_signatures.specs.Names.{arg_slot, call_path}
+use Rattle.ix_signatures.specs.SignErrors.{Refuses, ArgumentClaim}
 use Rattle.ix_rules_hold.proofs.MachineTests.{through_is}
 use Rattle.ix_soundness.specs.Direct.{direct}
 use Rattle.ix_soundness.specs.Known.{KindFits, call_of}

@@ -40,7 +40,7 @@ use Rattle.ix_soundness.specs.Making.{Stage, Plain, Making, with_types, MakingFi
 use Rattle.ix_soundness.proofs.ArgumentsMet.{params_met}
 use Rattle.ix_soundness.proofs.FormedCalls.{CallHas, call_has, static_fits_call, instance_fits_call, new_fits_call, super_fits_call, receiver_has, instance_named}
 use Rattle.ix_soundness.proofs.StageMoves.{operation_stays, super_made}
-use Rattle.ix_sign.specs.SignErrors.{ArgumentClaim}
+use Rattle.ix_signatures.specs.SignErrors.{ArgumentClaim}
 
 module _ (program : Program) (locals : List (List Type_)) (formed : is_formed program locals ≡ true) (profile : Profile) (entries : (number : ℕ) → nat_lt number (length program.methods) ≡ true → Stored)
     (building : ℕ → Type 0) (number : ℕ) (lt : number < length program.methods) (slots : List Held) (heap : Heap) (keeps : HeapKeeps (direct program) building heap)

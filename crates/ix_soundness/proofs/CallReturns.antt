@@ -35,9 +35,9 @@ use Rattle.ix_facts.proofs.FactLists.{all_hold_app}
 use Rattle.ix_rules_hold.specs.CallEffects.{spared_in}
 use Rattle.ix_rules_hold.specs.MachineSteps.{own_slot, reading_at}
 use Rattle.ix_rules_hold.proofs.ReturnedCalls.{called_step}
-use Rattle.ix_sign.specs.Names.{call_path}
-use Rattle.ix_sign.specs.Signs.{CallGives, of_callee, received, claims_facts, posts_facts, answer_facts}
-use Rattle.ix_sign.proofs.SignTruth.{signs_hold}
+use Rattle.ix_signatures.specs.Names.{call_path}
+use Rattle.ix_signatures.specs.Signs.{CallGives, of_callee, received, claims_facts, posts_facts, answer_facts}
+use Rattle.ix_signatures.proofs.SignTruth.{signs_hold}
 use Rattle.ix_rules_hold.proofs.MachineTests.{through_is}
 use Rattle.ix_soundness.specs.Direct.{direct}
 use Rattle.ix_soundness.specs.Known.{KindFits, call_of}

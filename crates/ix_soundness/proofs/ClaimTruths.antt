@@ -17,8 +17,8 @@ use Rattle.ix_facts.proofs.ClaimLaws.{claim_facts_hold}
 use Rattle.ix_facts.proofs.FactLists.{all_hold_app}
 use Rattle.ix_rules_hold.specs.MachineSteps.{on_paths, reading_at}
 use Rattle.ix_rules_hold.proofs.MachineTests.{claim_holds, claim_true}
-use Rattle.ix_sign.specs.Signs.{claims_facts}
-use Rattle.ix_sign.specs.SignErrors.{Unproved, unproved}
+use Rattle.ix_signatures.specs.Signs.{claims_facts}
+use Rattle.ix_signatures.specs.SignErrors.{Unproved, unproved}
 use Rattle.ix_core.proofs.Stack.{claim_named}
 
 -- ---- claims, where the numbers that they name are the same

@@ -17,8 +17,8 @@ use Rattle.ix_core.specs.Tables.{method_at}
 use Rattle.ix_core.specs.Waits.{AreNotOwn}
 use Rattle.ix_core.proofs.Cases.{by_test, equal}
 use Rattle.ix_rules_hold.specs.MachineSteps.{own_slot}
-use Rattle.ix_sign.specs.Names.{is_built}
-use Rattle.ix_sign.specs.SignErrors.{plain, part, HasEffect}
+use Rattle.ix_signatures.specs.Names.{is_built}
+use Rattle.ix_signatures.specs.SignErrors.{plain, part, HasEffect}
 use Rattle.ix_sign.specs.RuleErrors.{Somewhere, SomewhereAsked, OpText, TestEscapes, escapes_by, this_args, this_entries, is_this}
 use Rattle.ix_soundness.specs.Chain.{Each, EachAsked}
 use Rattle.ix_soundness.specs.Clean.{Hides, IsQuiet, IsClean}

@@ -29,9 +29,9 @@ use Rattle.ix_facts.specs.Forget.{SameBut, of_slot}
 use Rattle.ix_facts.specs.Stores.{Stored, Meets}
 use Rattle.ix_rules_hold.specs.MachineSteps.{on_paths, own_path, reading_at}
 use Rattle.ix_core.specs.Ready.{local_slot, LocalsApart}
-use Rattle.ix_sign.specs.Names.{variable_at, param_in, local_in, or_else}
-use Rattle.ix_sign.specs.SignErrors.{Refuses}
-use Rattle.ix_sign.specs.Signs.{claims_facts}
+use Rattle.ix_signatures.specs.Names.{variable_at, param_in, local_in, or_else}
+use Rattle.ix_signatures.specs.SignErrors.{Refuses}
+use Rattle.ix_signatures.specs.Signs.{claims_facts}
 use Rattle.ix_sign.specs.MethodRules.{variable_claims, copied_claims}
 use Rattle.ix_sign.specs.RuleErrors.{AssignClaim, subject_of}
 use Rattle.ix_soundness.proofs.ClaimTruths.{claims_hold, each_true, none_fails}

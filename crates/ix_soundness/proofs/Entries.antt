@@ -35,7 +35,7 @@ use Rattle.ix_facts.proofs.FactLists.{all_hold_app}
 use Rattle.ix_rules_hold.specs.MachineSteps.{reading_at}
 use Rattle.ix_rules_hold.proofs.MachineTests.{field_is}
 use Rattle.ix_facts.specs.Stores.{Stored}
-use Rattle.ix_sign.specs.Signs.{EntryGives, entry_facts, received_params, params_facts, zero_fields, own_fields, has_no_parent}
+use Rattle.ix_signatures.specs.Signs.{EntryGives, entry_facts, received_params, params_facts, zero_fields, own_fields, has_no_parent}
 use Rattle.ix_soundness.specs.Direct.{direct}
 use Rattle.ix_soundness.specs.Known.{stage_if, entry_stage, known_at, HoldsFor}
 use Rattle.ix_soundness.specs.Making.{Making, Tracks, StageFits, StageHolds}

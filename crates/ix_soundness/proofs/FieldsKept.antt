@@ -29,9 +29,9 @@ use Rattle.ix_facts.specs.Stores.{Stored, Meets}
 use Rattle.ix_rules_hold.specs.MachineSteps.{on_paths, reading_at}
 use Rattle.ix_rules_hold.proofs.MachineTests.{claim_true, field_is}
 use Rattle.ix_rules_hold.proofs.KeptNumbers.{same_true}
-use Rattle.ix_sign.specs.Names.{written_path, is_built, names_field}
-use Rattle.ix_sign.specs.Signs.{Adds, write_facts}
-use Rattle.ix_sign.specs.SignErrors.{AllRefuse, FieldClaim, FieldDependent}
+use Rattle.ix_signatures.specs.Names.{written_path, is_built, names_field}
+use Rattle.ix_signatures.specs.Signs.{Adds, write_facts}
+use Rattle.ix_signatures.specs.SignErrors.{AllRefuse, FieldClaim, FieldDependent}
 use Rattle.ix_soundness.specs.Direct.{direct}
 use Rattle.ix_soundness.proofs.ClaimTruths.{true_named, none_fails}
 use Rattle.ix_soundness.proofs.FieldsShown.{adds_hold, each_are, are_each, named_field, built_of, write_holds}

@@ -30,8 +30,8 @@ use Rattle.ix_facts.proofs.FactLists.{all_hold_app}
 use Rattle.ix_facts.proofs.StepLaws.{gives_meets}
 use Rattle.ix_rules_hold.specs.MachineSteps.{reading_at, own_slot}
 use Rattle.ix_rules_hold.proofs.MachineTests.{field_is}
-use Rattle.ix_sign.specs.Names.{object_path, is_built, names_field, is_field, some_field}
-use Rattle.ix_sign.specs.Signs.{Adds, claims_facts, read_facts, write_facts, dependent_facts}
+use Rattle.ix_signatures.specs.Names.{object_path, is_built, names_field, is_field, some_field}
+use Rattle.ix_signatures.specs.Signs.{Adds, claims_facts, read_facts, write_facts, dependent_facts}
 use Rattle.ix_soundness.specs.Direct.{direct}
 use Rattle.ix_soundness.proofs.ClaimTruths.{claims_hold}
 use Rattle.ix_soundness.proofs.FieldPlaces.{has_same}

@@ -11,7 +11,7 @@ use Rattle.ix_core.specs.Numbers.{Numbers}
 use Rattle.ix_core.specs.Posts.{answer_of}
 use Rattle.ix_core.proofs.Cases.{by_test, equal}
 use Rattle.ix_facts.specs.Facts.{AllHold}
-use Rattle.ix_sign.specs.Signs.{told_by}
+use Rattle.ix_signatures.specs.Signs.{told_by}
 use Rattle.ix_soundness.specs.Known.{LastHolds}
 use Rattle.ix_soundness.proofs.OperationsKeep.{IsNoCall}
 

@@ -30,8 +30,8 @@ use Rattle.ix_facts.specs.Assume.{ClaimHolds}
 use Rattle.ix_facts.specs.Stores.{Stored, Unreachable, Reached, Meets}
 use Rattle.ix_rules_hold.specs.MachineSteps.{on_paths, own_path, reading_at, IsDeclared}
 use Rattle.ix_rules_hold.proofs.MachineTests.{parameter_is, field_is}
-use Rattle.ix_sign.specs.Names.{object_path}
-use Rattle.ix_sign.specs.SignErrors.{Refuses, IsReached, ReturnClaim, ConstructorClaim, MissingReturn, PostClaim, counts_at, value_place, post_subject, plain, unproved}
+use Rattle.ix_signatures.specs.Names.{object_path}
+use Rattle.ix_signatures.specs.SignErrors.{Refuses, IsReached, ReturnClaim, ConstructorClaim, MissingReturn, PostClaim, counts_at, value_place, post_subject, plain, unproved}
 use Rattle.ix_soundness.specs.Direct.{direct}
 use Rattle.ix_soundness.proofs.ClaimTruths.{claims_true, none_fails}
 use Rattle.ix_soundness.proofs.FieldPlaces.{placed_among, among_at}

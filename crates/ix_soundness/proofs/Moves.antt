@@ -43,9 +43,9 @@ use Rattle.ix_core.specs.Posts.{last_done, written_answer}
 use Rattle.ix_flow.specs.Flow.{Rules, Doing, Flows}
 use Rattle.ix_rules_hold.proofs.MachineSteps.{printed_stays}
 use Rattle.ix_rules_hold.proofs.MachineTests.{told_true, told_false}
-use Rattle.ix_sign.proofs.SignTruth.{signs_hold}
+use Rattle.ix_signatures.proofs.SignTruth.{signs_hold}
 use Rattle.ix_sign.specs.MethodRules.{method_rules, KindGives}
-use Rattle.ix_sign.specs.Signs.{Adds, told_by, told_facts}
+use Rattle.ix_signatures.specs.Signs.{Adds, told_by, told_facts}
 use Rattle.ix_soundness.specs.Chain.{Passes, Same, Weaker, Rounding, Flowing, Finishing, Running, Asking, Comparing, Telling, Turning, Returning, Leaving, Passing, Forgetting, Each}
 use Rattle.ix_soundness.specs.Clean.{IsClean}
 use Rattle.ix_soundness.specs.Direct.{direct}

@@ -24,7 +24,7 @@ use Rattle.ix_core.specs.SameClaims.{same_name}
 use Rattle.ix_core.specs.Tables.{no_field, param_slot, param_slots}
 use Rattle.ix_core.specs.Types.{int_type, is_class, is_type, is_empty, is_void, is_int_type, is_array_type}
 use Rattle.ix_core.proofs.Cases.{by_test}
-use Rattle.ix_soundness.specs.Naming.{IsSmallName, AreSmallNames, AreSmallClaims, AreSmallParams, AreSmallLocals, AreSmallPosts}
+use Rattle.ix_signatures.specs.Naming.{IsSmallName, AreSmallNames, AreSmallClaims, AreSmallParams, AreSmallLocals, AreSmallPosts}
 
 pub most_is : (count most : ℕ) → at_most count most ≡ true → count ≤ most
 most_is count most e = grind (arith, nat_tests)

@@ -29,7 +29,7 @@ use Rattle.ix_soundness.specs.Shown.{Shown}
 use Rattle.ix_soundness.proofs.AccessesShown.{inside_shown, length_shown, element_shown, fresh_shown}
 use Rattle.ix_soundness.proofs.FieldsKept.{written_meets}
 use Rattle.ix_soundness.proofs.OperationsMeet.{stores}
-use Rattle.ix_sign.specs.SignErrors.{part}
+use Rattle.ix_signatures.specs.SignErrors.{part}
 
 module _ (program : Program) (locals : List (List Type_)) (formed : is_formed program locals ≡ true) (tables : IsWorld (direct program)) (number : ℕ) (lt : number < length program.methods) (slots : List Held) (heap : Heap) (types : Types)
     (size : length slots ≡ (method_at program number).slots) (typed : SlotsTyped program types slots heap) (heap_typed : HeapTyped program heap)

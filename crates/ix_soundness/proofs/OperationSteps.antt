@@ -26,8 +26,8 @@ use Rattle.ix_facts.specs.After.{Step}
 use Rattle.ix_facts.specs.Stores.{Stored, Meets, Gives, operated}
 use Rattle.ix_rules_hold.proofs.FieldReads.{of_place}
 use Rattle.ix_rules_hold.proofs.MachineSteps.{of_through}
-use Rattle.ix_sign.proofs.SignTruth.{signs_hold}
-use Rattle.ix_sign.specs.SignErrors.{part}
+use Rattle.ix_signatures.proofs.SignTruth.{signs_hold}
+use Rattle.ix_signatures.specs.SignErrors.{part}
 use Rattle.ix_sign.specs.MethodRules.{KindGives, copied_claims}
 use Rattle.ix_soundness.specs.Direct.{direct}
 use Rattle.ix_soundness.specs.Errors.{NoKindErrors}

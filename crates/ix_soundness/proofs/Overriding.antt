@@ -43,8 +43,8 @@ use Rattle.ix_facts.proofs.Frame.{without_stays, without_holds}
 use Rattle.ix_facts.proofs.StepLaws.{gives_meets}
 use Rattle.ix_rules_hold.specs.MachineSteps.{on_paths, own_path, reading_at, IsDeclared}
 use Rattle.ix_rules_hold.proofs.MachineTests.{parameter_is}
-use Rattle.ix_sign.specs.Signs.{received, received_params, params_facts, claims_facts}
-use Rattle.ix_sign.specs.SignErrors.{AllRefuse, OverrideErrors, of_run, HasRun, plain}
+use Rattle.ix_signatures.specs.Signs.{received, received_params, params_facts, claims_facts}
+use Rattle.ix_signatures.specs.SignErrors.{AllRefuse, OverrideErrors, of_run, HasRun, plain}
 use Rattle.ix_soundness.proofs.FieldsShown.{adds_hold}
 use Rattle.ix_rules_hold.proofs.ReturnedCalls.{or_parts}
 use Rattle.ix_soundness.specs.Direct.{direct}

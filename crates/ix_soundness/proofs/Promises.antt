@@ -24,8 +24,8 @@ use Rattle.ix_facts.proofs.ClaimLaws.{claim_facts_hold}
 use Rattle.ix_facts.proofs.FactLists.{all_hold_app}
 use Rattle.ix_rules_hold.specs.MachineSteps.{on_paths, reading_at}
 use Rattle.ix_rules_hold.proofs.MachineTests.{claim_holds, claim_true}
-use Rattle.ix_sign.specs.Signs.{posts_facts}
-use Rattle.ix_sign.specs.SignErrors.{counts_at}
+use Rattle.ix_signatures.specs.Signs.{posts_facts}
+use Rattle.ix_signatures.specs.SignErrors.{counts_at}
 
 pub if_so_hold : (v : Numbers) (test : Bool) (facts : List Fact) → (test ≡ true → AllHold facts v) → AllHold (if_so test facts) v
 if_so_hold v true facts h = h refl

@@ -13,7 +13,7 @@ use Rattle.ix_core.specs.Tables.{no_method, method_at, body_of, param_slots}
 use Rattle.ix_core.specs.Types.{is_class}
 use Rattle.ix_core.proofs.Cases.{by_test}
 use Rattle.ix_core.proofs.FormedParts.{locals_of, method_is, posts_are, fields_all}
-use Rattle.ix_soundness.specs.Naming.{HasSmallNames, HaveSmallNames}
+use Rattle.ix_signatures.specs.Naming.{HasSmallNames, HaveSmallNames}
 use Rattle.ix_core.specs.Ready.{HasFew}
 use Rattle.ix_soundness.proofs.NamesInRange.{params_small, locals_small, result_small, promises_small, as_many_types, few_params, fields_small}
 

@@ -31,9 +31,9 @@ use Rattle.ix_rules_hold.specs.CallEffects.{spared_in}
 use Rattle.ix_rules_hold.specs.MachineSteps.{own_slot, reading_at}
 use Rattle.ix_rules_hold.proofs.MachineTests.{field_is}
 use Rattle.ix_rules_hold.proofs.ReturnedCalls.{super_step}
-use Rattle.ix_sign.specs.Names.{object_path}
-use Rattle.ix_sign.specs.Signs.{SuperGives, of_callee, zero_facts, zero_fields, own_fields, fields_facts, fields_above, inherited_fields}
-use Rattle.ix_sign.proofs.SignTruth.{signs_hold}
+use Rattle.ix_signatures.specs.Names.{object_path}
+use Rattle.ix_signatures.specs.Signs.{SuperGives, of_callee, zero_facts, zero_fields, own_fields, fields_facts, fields_above, inherited_fields}
+use Rattle.ix_signatures.proofs.SignTruth.{signs_hold}
 use Rattle.ix_soundness.specs.Direct.{direct}
 use Rattle.ix_soundness.specs.Known.{call_of}
 use Rattle.ix_soundness.proofs.ClaimTruths.{claims_hold}

@@ -21,8 +21,8 @@ use Rattle.ix_core.specs.Types.{Types}
 use Rattle.ix_core.specs.Waits.{Knowledge}
 use Rattle.ix_facts.specs.Facts.{AllHold}
 use Rattle.ix_facts.specs.Stores.{Stored, Meets}
-use Rattle.ix_sign.specs.Signs.{CallGives, SuperGives, told_facts}
-use Rattle.ix_sign.specs.SignErrors.{ArgumentClaim}
+use Rattle.ix_signatures.specs.Signs.{CallGives, SuperGives, told_facts}
+use Rattle.ix_signatures.specs.SignErrors.{ArgumentClaim}
 use Rattle.ix_sign.specs.MethodRules.{method_rules}
 use Rattle.ix_soundness.specs.Chain.{Flowing}
 use Rattle.ix_soundness.specs.Clean.{IsClean}

@@ -14,5 +14,3 @@ pub mod Known
 -- The promise.
 pub mod Sound
 pub mod Stands
--- Passed on from ix_sign.
-pub use Rattle.ix_sign.specs.Naming

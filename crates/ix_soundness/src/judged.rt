@@ -6,7 +6,7 @@ ghost use Rattle.ix_core.specs.declared.program.Program.{Program};
 ghost use Rattle.ix_core.specs.Formed.{Formed};
 ghost use Rattle.ix_core.specs.Tables.{method_at};
 ghost use Rattle.ix_core.specs.Ready.{HasFew};
-ghost use Rattle.ix_soundness.specs.Naming.{HaveSmallNames};
+ghost use Rattle.ix_signatures.specs.Naming.{HaveSmallNames};
 
 /// The claims of a formed program name parameters that are there, and parameters can be counted with 32 bits; so can locals and fields, where this is told.
 pub fn names_are_small()

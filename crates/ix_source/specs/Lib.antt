@@ -27,6 +27,3 @@ pub mod WellNamed
 pub mod SoundClasses
 -- Passed on from ix_lower.
 pub use Rattle.ix_lower.specs.declared.source.LowerError
--- Passed on from ix_meaning.
-pub use Rattle.ix_meaning.specs.declared.note.Which
-pub use Rattle.ix_meaning.specs.declared.note.Meaning

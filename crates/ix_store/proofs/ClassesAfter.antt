@@ -1,7 +1,7 @@
 -- What an int is at least in the facts behind a rule is -1, 0 or 1.
 use Rattle.std.specs.Prelude.{Bool, true, false, not, ◌||◌, ℤ, pos, ◌+ℤ◌, ◌-ℤ◌, int_le, int_lt, List, [], ◌∷◌, ◌++◌}
 use Rattle.std.proofs.Common.{sym, subst, ⊎_elim}
-use Rattle.ix_core.specs.Ints.{least_int, greatest_int}
+use Rattle.ix_num.specs.Ints.{least_int, greatest_int}
 use Rattle.ix_core.specs.declared.fact.Path.{Path}
 use Rattle.ix_core.specs.declared.fact.PathClaim.{PathClaim}
 use Rattle.ix_core.specs.declared.fact.PathOff.TheVariants.{Nothing, Plus, Minus}

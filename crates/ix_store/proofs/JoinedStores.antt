@@ -1,7 +1,7 @@
 -- The join of two stores, by what each is.
 use Rattle.std.specs.Prelude.{◌≡◌, Some, None, Result, Ok, Err, IfOk}
 use Rattle.std.specs.declared.alloc.AllocError.{AllocError}
-use Rattle.ix_facts.specs.Lattice.{IsJoin}
+use Rattle.ix_lattice.specs.Lattice.{IsJoin}
 use Rattle.ix_facts.specs.Closure.{IsCommon}
 use Rattle.ix_facts.specs.Stores.{Stored, SayTheSame, IsJoined, left, right, both}
 use Rattle.ix_facts.proofs.StoreLaws.{below_itself}

@@ -18,7 +18,7 @@ use Rattle.ix_facts.proofs.FactLists.{in_right}
 use Rattle.ix_fact_table.specs.FactTables.{table_kind}
 use Rattle.ix_store.proofs.TablesInTurn.{any_table, said_closed}
 use Rattle.ix_facts.proofs.Tests.{neither}
-use Rattle.ix_fact_list.proofs.BoundSteps.{in_orders_small}
+use Rattle.ix_bounds.proofs.BoundSteps.{in_orders_small}
 use Rattle.ix_fact_table.specs.TableLaws.{all_may}
 use Rattle.ix_store.specs.declared.known.Known.{Known}
 use Rattle.ix_store.specs.EmptyRanges.{is_empty, some_empty}

@@ -11,9 +11,9 @@ use Rattle.ix_facts.specs.Facts.{IsIn, orders, in_orders}
 use Rattle.ix_facts.specs.Named.{IsAmongPaths}
 use Rattle.ix_facts.proofs.FactLists.{in_in_orders, from_in_orders}
 use Rattle.ix_facts.proofs.FormLaws.{first_order}
-use Rattle.ix_fact_list.specs.ByPath.{put_all}
-use Rattle.ix_fact_list.specs.NamedLaws.{AreAmong, same_members, named_by, names_it}
-use Rattle.ix_fact_list.specs.PutLaws.{all_rise, all_only, all_there}
+use Rattle.ix_fact_paths.specs.ByPath.{put_all}
+use Rattle.ix_fact_paths.specs.NamedLaws.{AreAmong, same_members, named_by, names_it}
+use Rattle.ix_fact_paths.specs.PutLaws.{all_rise, all_only, all_there}
 
 -- a fact names the same paths in each of its orders
 abbrev SameNames : (Fact → List Path) → Type 0

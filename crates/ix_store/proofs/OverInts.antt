@@ -4,7 +4,7 @@ use Rattle.std.specs.Int.{int_min, int_max}
 use Rattle.std.proofs.Common.{arith, inl, inr, ap, sym, ◌∙◌, subst, ⊎_elim, length-append}
 use Rattle.std.proofs.lemmas.Bool.{false≢true}
 use Rattle.std.proofs.lemmas.Int.{ints, clamps}
-use Rattle.ix_core.specs.Ints.{least_int, greatest_int}
+use Rattle.ix_num.specs.Ints.{least_int, greatest_int}
 use Rattle.ix_core.specs.declared.fact.Path.{Path}
 use Rattle.ix_core.specs.declared.fact.PathOff.{PathOff}
 use Rattle.ix_core.specs.declared.fact.PathOff.TheVariants.{Nothing, Plus, Minus}
@@ -26,10 +26,10 @@ use Rattle.ix_facts.proofs.Frame.{in_without}
 use Rattle.ix_facts.proofs.SaidLaws.{default_is, is_a_default, told_in_orders}
 use Rattle.ix_facts.proofs.SystemLaws.{of_any}
 use Rattle.ix_facts.proofs.Tests.{neither}
-use Rattle.ix_fact_list.specs.ByPath.{put_all}
-use Rattle.ix_fact_list.specs.Ends.{is_end, ends_in}
-use Rattle.ix_fact_list.specs.NamedLaws.{AreAmong, named_by, names_it, named_either}
-use Rattle.ix_fact_list.specs.PutLaws.{IsRising, all_rise, all_stay, all_there}
+use Rattle.ix_fact_paths.specs.ByPath.{put_all}
+use Rattle.ix_bounds.specs.Ends.{is_end, ends_in}
+use Rattle.ix_fact_paths.specs.NamedLaws.{AreAmong, named_by, names_it, named_either}
+use Rattle.ix_fact_paths.specs.PutLaws.{IsRising, all_rise, all_stay, all_there}
 use Rattle.ix_fact_paths.specs.ChangedPaths.{some_path, paths_beside}
 use Rattle.ix_fact_paths.specs.Spared.{some_named, spared}
 use Rattle.ix_fact_table.specs.FactOrder.{comes_before}

@@ -7,7 +7,7 @@ use Rattle.std.specs.Ordering.{is_eq, eq_by_cmp}
 use Rattle.std.proofs.Common.{arith, inl, inr, ap, sym, ◌∙◌, subst, ⊎_elim}
 use Rattle.std.proofs.lemmas.Bool.{and_parts, false≢true}
 use Rattle.std.proofs.lemmas.Int.{ints, clamps}
-use Rattle.ix_core.specs.Ints.{least_int, greatest_int}
+use Rattle.ix_num.specs.Ints.{least_int, greatest_int}
 use Rattle.ix_core.specs.declared.fact.Path.{Path}
 use Rattle.ix_core.specs.declared.fact.PathOff.TheVariants.{Plus}
 use Rattle.ix_core.specs.declared.fact.Fact.{Fact}

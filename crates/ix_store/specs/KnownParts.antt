@@ -7,9 +7,9 @@ use Rattle.ix_core.proofs.Cases.{by_test}
 use Rattle.ix_facts.specs.Bounds.{is_path}
 use Rattle.ix_facts.specs.Facts.{in_orders}
 use Rattle.ix_facts.specs.Forget.{names}
-use Rattle.ix_fact_list.specs.Ends.{ends_in}
-use Rattle.ix_fact_list.specs.Links.{links_in}
-use Rattle.ix_fact_list.specs.Lengths.{is_len, lengths_in, lengths_of_ends, lengths_of_links}
+use Rattle.ix_bounds.specs.Ends.{ends_in}
+use Rattle.ix_bounds.specs.Links.{links_in}
+use Rattle.ix_bounds.specs.Lengths.{is_len, lengths_in, lengths_of_ends, lengths_of_links}
 use Rattle.ix_store.specs.declared.known.Known.{Known}
 use Rattle.ix_store.specs.StoredFacts.{facts_in}
 

@@ -11,8 +11,3 @@ pub mod StoreLaws
 pub mod WholeStores
 -- Passed on from ix_fact_paths.
 pub use Rattle.ix_fact_paths.specs.ChangedPaths
--- Passed on from ix_test_facts.
-pub use Rattle.ix_test_facts.specs.OverGroups
-pub use Rattle.ix_test_facts.specs.declared.outcome.Outcome
--- Passed on from ix_facts.
-pub use Rattle.ix_facts.specs.Stores

@@ -4,8 +4,8 @@ use Rattle.ix_core.specs.declared.fact.Path.{Path}
 use Rattle.ix_facts.specs.declared.kind.Kind.TheVariants as kind
 use Rattle.ix_facts.specs.Exact.{named_ints}
 use Rattle.ix_facts.specs.Facts.{in_orders}
-use Rattle.ix_fact_list.specs.NamedLaws.{AreAmong}
-use Rattle.ix_fact_list.specs.PutLaws.{IsRising}
+use Rattle.ix_fact_paths.specs.NamedLaws.{AreAmong}
+use Rattle.ix_fact_paths.specs.PutLaws.{IsRising}
 use Rattle.ix_fact_table.specs.declared.fact_table.FactTable.{FactTable}
 use Rattle.ix_fact_table.specs.FactTables.{facts_of, table_kind}
 

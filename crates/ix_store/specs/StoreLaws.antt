@@ -3,9 +3,9 @@ use Rattle.std.specs.Prelude.{◌≡◌, ℕ, ◌+◌, ◌*◌, ◌^◌, ◌<◌
 use Rattle.std.specs.Ordering.{eq_by_cmp}
 use Rattle.std.proofs.Common.{arith, inl, inr, ap, ◌∙◌, ⊎_elim}
 use Rattle.std.proofs.lemmas.Int.{ints, clamps}
-use Rattle.ix_core.specs.Ints.{least_int, greatest_int}
-use Rattle.ix_facts.specs.Lattice.{LatticeLaws, IsJoin}
-use Rattle.ix_facts.specs.FactMap.{rank_unseen}
+use Rattle.ix_num.specs.Ints.{least_int, greatest_int}
+use Rattle.ix_lattice.specs.Lattice.{LatticeLaws, IsJoin}
+use Rattle.ix_lattice.specs.FactMap.{rank_unseen}
 use Rattle.ix_core.specs.declared.fact.Fact.{Fact}
 use Rattle.ix_core.specs.declared.fact.Fact.TheVariants.{Rng, LenRng, Low, Same, IsLen, Less, Sum, Search, Neg, Upper}
 use Rattle.ix_facts.specs.Facts.{IsIn}

@@ -17,8 +17,9 @@ use crate::limited::Limited;
 use ix_core::{Fact, OpKind, Path, PathClaim, Profile, Type_};
 use ix_fact_list::FactList;
 use ix_fact_paths::{Changed, rounded_facts, unchanged};
-use ix_facts::Arith;
-use ix_test_facts::{Outcome, facts_of_outcome, push_fact, push_less, push_upper};
+use ix_intervals::{push_fact, push_less, push_upper};
+use ix_num::Arith;
+use ix_test_facts::{Outcome, facts_of_outcome};
 use ix_transfer::{facts_after, facts_of_copy, push_claim};
 use std::alloc::{AllocError, Global};
 

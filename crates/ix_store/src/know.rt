@@ -2,16 +2,16 @@
 
 use crate::nothing::NoFacts;
 use crate::store::Store;
+use ix_bounds as bounds;
 use ix_core::{Fact, Path, PathOff};
-use ix_fact_list::bounds;
 use ix_facts::Know;
 
 impl Know for Store {
     ghost use Rattle.std.specs.Prelude.{[]};
     ghost use Rattle.ix_facts.specs.Facts.{in_orders};
     ghost use Rattle.ix_facts.specs.Exact.{named_ints, named_arrays};
-    ghost use Rattle.ix_fact_list.specs.ByPath.{put_all};
-    ghost use Rattle.ix_fact_list.specs.PutLaws.{put_once};
+    ghost use Rattle.ix_fact_paths.specs.ByPath.{put_all};
+    ghost use Rattle.ix_fact_paths.specs.PutLaws.{put_once};
     ghost use Rattle.ix_store.specs.SeenFacts.{facts_seen};
 
     ghost known = { facts_seen };

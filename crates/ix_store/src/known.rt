@@ -4,9 +4,9 @@ ghost use Rattle.std.specs.Prelude.{◌≡◌, ◌<◌, ◌≤◌, ◌^◌, fals
 ghost use Rattle.ix_facts.specs.declared.kind.Kind.TheVariants as kind;
 ghost use Rattle.ix_facts.specs.Exact.{named_ints, named_arrays};
 ghost use Rattle.ix_facts.specs.Facts.{in_orders};
-ghost use Rattle.ix_fact_list.specs.Ends.{ends_in};
-ghost use Rattle.ix_fact_list.specs.Links.{links_in};
-ghost use Rattle.ix_fact_list.specs.ByPath.{put_all};
+ghost use Rattle.ix_bounds.specs.Ends.{ends_in};
+ghost use Rattle.ix_bounds.specs.Links.{links_in};
+ghost use Rattle.ix_fact_paths.specs.ByPath.{put_all};
 ghost use Rattle.ix_fact_table.specs.FactTables.{facts_of, table_kind};
 ghost use Rattle.ix_store.specs.ClosedFacts.{AreClosed};
 ghost use Rattle.ix_store.specs.EmptyRanges.{some_empty};

@@ -4,9 +4,9 @@ ghost use Rattle.std.specs.Prelude.{◌≡◌, ◌<◌, Some, length, slice_get}
 ghost use Rattle.ix_store.specs.StoredFacts.{facts_in};
 
 use crate::known::Known;
+use ix_bounds::{self, Groups};
 use ix_core::{Fact, Path, PathOff};
-use ix_fact_list::bounds::{self, Groups, Indexed};
-use ix_facts::Know;
+use ix_facts::{Indexed, Know};
 
 impl Known {
     /// The fact of this number, from 0, in the order of the table.
@@ -76,8 +76,8 @@ impl Know for Known {
     ghost use Rattle.std.specs.Prelude.{[]};
     ghost use Rattle.ix_facts.specs.Facts.{in_orders};
     ghost use Rattle.ix_facts.specs.Exact.{named_ints, named_arrays};
-    ghost use Rattle.ix_fact_list.specs.ByPath.{put_all};
-    ghost use Rattle.ix_fact_list.specs.PutLaws.{put_once};
+    ghost use Rattle.ix_fact_paths.specs.ByPath.{put_all};
+    ghost use Rattle.ix_fact_paths.specs.PutLaws.{put_once};
     ghost use Rattle.ix_store.specs.StoredFacts.{facts_in};
 
     ghost known = { facts_in };

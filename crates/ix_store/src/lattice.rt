@@ -1,7 +1,7 @@
 //! The order of stores.
 
 ghost use Rattle.std.specs.Prelude.{◌↔◌, IsTrue, IfOk};
-ghost use Rattle.ix_facts.specs.Lattice.{IsJoin};
+ghost use Rattle.ix_lattice.specs.Lattice.{IsJoin};
 ghost use Rattle.ix_facts.specs.Closure.{SaysAll, IsCommon};
 ghost use Rattle.ix_facts.specs.Stores.{IsJoined};
 ghost use Rattle.ix_store.specs.StoredFacts.{facts_in, stored};
@@ -9,7 +9,7 @@ ghost use Rattle.ix_store.specs.StoreOrder.{StoreBelow};
 
 use crate::known::Known;
 use crate::store::Store;
-use ix_facts::Lattice;
+use ix_lattice::Lattice;
 use ix_text::Joint;
 use std::alloc::{AllocError, Global};
 

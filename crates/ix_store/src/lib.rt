@@ -21,6 +21,4 @@ mod rules;
 mod seen;
 mod store;
 
-pub use ix_core::Test;
-pub use ix_test_facts::{Outcome, outcomes};
 pub use store::Store;

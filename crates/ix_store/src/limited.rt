@@ -7,10 +7,10 @@ ghost use Rattle.ix_store.specs.declared.known.Known.{Known};
 ghost use Rattle.ix_store.specs.StoredFacts.{facts_in};
 
 use crate::known::Known;
+use ix_bounds::Groups;
 use ix_core::{Fact, Path, PathOff};
 use ix_fact_list::Limits;
-use ix_fact_list::bounds::{Groups, Indexed};
-use ix_facts::Know;
+use ix_facts::{Indexed, Know};
 use std::alloc::{AllocError, Global};
 use std::marker::Model;
 
@@ -92,8 +92,8 @@ impl<'a> Know for Limited<'a> {
     ghost use Rattle.std.specs.Prelude.{[]};
     ghost use Rattle.ix_facts.specs.Facts.{in_orders};
     ghost use Rattle.ix_facts.specs.Exact.{named_ints, named_arrays};
-    ghost use Rattle.ix_fact_list.specs.ByPath.{put_all};
-    ghost use Rattle.ix_fact_list.specs.PutLaws.{put_once};
+    ghost use Rattle.ix_fact_paths.specs.ByPath.{put_all};
+    ghost use Rattle.ix_fact_paths.specs.PutLaws.{put_once};
     ghost use Rattle.ix_store.specs.StoredFacts.{facts_in};
 
     ghost known = { facts_in };

@@ -2,8 +2,8 @@
 
 ghost use Rattle.std.specs.Prelude.{◌≡◌};
 
+use ix_bounds::Groups;
 use ix_core::{Fact, Path};
-use ix_fact_list::bounds::Groups;
 
 /// No facts.
 pub(crate) struct NoFacts;

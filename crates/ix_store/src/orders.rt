@@ -5,7 +5,7 @@ ghost use Rattle.ix_facts.specs.Facts.{in_orders};
 ghost use Rattle.ix_store.specs.Orders.{ordered_by};
 
 use ix_core::Fact;
-use ix_fact_list::{have_one_order, in_all_orders};
+use ix_fact_paths::{have_one_order, in_all_orders};
 use ix_fact_table::Row;
 use std::alloc::{AllocError, Global};
 

@@ -2,8 +2,8 @@
 
 ghost use Rattle.std.specs.Prelude.{◌≡◌, ◌≤◌, [], length, take, IfOk};
 ghost use Rattle.ix_facts.specs.Exact.{named_ints, named_arrays};
-ghost use Rattle.ix_fact_list.specs.ByPath.{put_all};
-ghost use Rattle.ix_fact_list.specs.Ends.{ends_in};
+ghost use Rattle.ix_fact_paths.specs.ByPath.{put_all};
+ghost use Rattle.ix_bounds.specs.Ends.{ends_in};
 ghost use Rattle.ix_fact_table.specs.declared.fact_table.FactTable.{FactTable};
 ghost use Rattle.ix_fact_table.specs.FactTables.{facts_of};
 ghost use Rattle.ix_store.specs.Orders.{ordered_by};
@@ -11,7 +11,8 @@ ghost use Rattle.ix_store.specs.OverInts.{IsOver};
 
 use crate::orders::ordered;
 use ix_core::Path;
-use ix_fact_list::{ints_and_arrays, ints_and_arrays_among, up_to_ends};
+use ix_fact_list::up_to_ends;
+use ix_fact_paths::{ints_and_arrays, ints_and_arrays_among};
 use ix_fact_table::{FactTable, Row};
 use std::alloc::{AllocError, Global};
 use std::marker::Model;

@@ -2,7 +2,7 @@
 use Rattle.std.specs.Prelude.{ℕ, ◌+◌, Bool, if◌then◌else◌, Option, Some, None, List, [], ◌∷◌, slice_get}
 use Rattle.std.specs.HashMap.{get}
 use Rattle.ix_text.specs.declared.span.Span.{Span}
-use Rattle.ix_meaning.specs.Type_.{Type_ as Ty}
+use Rattle.ix_core.specs.declared.claim.Type_.{Type_ as Ty}
 use Rattle.ix_meaning.specs.declared.note.Meaning.{Meaning}
 use Rattle.ix_meaning.specs.declared.note.Declared.{Declared}
 use Rattle.ix_meaning.specs.declared.note.Note.{Note}

@@ -16,7 +16,6 @@ mod types;
 pub use classes::{
     ClassTable, class_table, is_among, is_cyclic, note_first, parent, parents, supers,
 };
-pub use ix_meaning::{Field, Meaning, Signature};
 pub use listing::errors_of;
 pub use table::{Table, table_of};
 pub use types::{

@@ -7,7 +7,8 @@ ghost use Rattle.ix_meaning.specs.Listed.{same_span};
 ghost use Rattle.ix_meaning.specs.Resolved.{names_in};
 ghost use Rattle.ix_symbols.specs.Numbered as spec;
 
-use ix_meaning::{Declared, Meaning, Note, Type_};
+use ix_core::Type_;
+use ix_meaning::{Declared, Meaning, Note};
 use ix_text::{List, Span};
 use std::alloc::{AllocError, Global};
 use std::collections::HashMap;

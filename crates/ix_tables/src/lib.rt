@@ -10,6 +10,5 @@ mod keys;
 mod low;
 
 pub use cases::{CaseTable, low_table};
-pub use ix_num::{Arith, Interval, Rel};
 pub use keys::{KeyTable, key_table};
 pub use low::Low;

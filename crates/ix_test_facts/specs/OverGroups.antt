@@ -1,7 +1,7 @@
 -- What `p < q + k` and equal ints give, with the facts on each path as lists of their own: the facts that name a path give what all facts give.
 use Rattle.std.specs.Prelude.{Bool, false, not, cond, ℤ, pos, int_le, ◌+ℤ◌, ◌-ℤ◌, List, [], ◌∷◌, ◌++◌, filter}
 use Rattle.std.specs.Ordering.{is_gt}
-use Rattle.ix_facts.specs.Ints.{least_int, greatest_int}
+use Rattle.ix_num.specs.Ints.{least_int, greatest_int}
 use Rattle.ix_core.specs.declared.fact.Path.{Path}
 use Rattle.ix_core.specs.declared.fact.PathOff.TheVariants.{Nothing, Plus}
 use Rattle.ix_core.specs.declared.fact.Fact.{Fact}

@@ -20,6 +20,5 @@ mod shared;
 mod tests;
 
 pub use facts::facts_of_outcome;
-pub use ix_intervals::{push_fact, push_less, push_upper};
 pub use outcome::Outcome;
 pub use tests::outcomes;

@@ -7,7 +7,8 @@ ghost use Rattle.ix_test_facts.specs.OverGroups.{outcomes_of};
 
 use crate::outcome::Outcome;
 use ix_core::{Path, Test, Type_};
-use ix_facts::{Rel, is_array, is_int};
+use ix_facts::{is_array, is_int};
+use ix_num::Rel;
 use std::alloc::{AllocError, Global};
 
 /// The comparison that holds where this one doesn't (JLS 15.20.1, 15.21.1).

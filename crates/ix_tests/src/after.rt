@@ -6,7 +6,8 @@ use ix_core::{Fact, OpKind, Path, PathClaim, Profile};
 use ix_fact_list::FactList;
 use ix_fact_paths::facts_without_target;
 use ix_fact_rows::{Does, operation, says_all};
-use ix_transfer::{facts_after, push_claim};
+use ix_transfer::facts_after;
+use ix_transfer_rules::push_claim;
 use std::alloc::Global;
 use std::process::Abort;
 

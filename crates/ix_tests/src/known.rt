@@ -7,10 +7,11 @@ ghost use Rattle.ix_facts.specs.After.{of_target};
 ghost use Rattle.ix_facts.specs.Small.{HasSmallNumbers};
 ghost use Rattle.ix_facts.specs.Round.{Rises};
 
-use ix_core::{Fact, List, OpKind, Path};
+use ix_core::{Fact, OpKind, Path};
 use ix_fact_list::FactList;
 use ix_fact_rows::is_small;
 use ix_facts::Landmarks;
+use ix_text::List;
 use std::alloc::{AllocError, Global};
 use std::process::Abort;
 

@@ -1,13 +1,13 @@
 //! Rows of stores: steps from store to store, with what is known behind them.
 
-use ix_core::{Base, Fact, Field, List, Path, PathClaim, PathOff, Profile, Program, Type_};
+use ix_core::{Base, Fact, Field, Path, PathClaim, PathOff, Profile, Program, Test, Type_};
 use ix_fact_rows::{Does, Holds, is_among, is_small, operation, type_of};
 use ix_facts::{Know, Landmarks};
 use ix_lattice::Lattice;
 use ix_num::Rel;
 use ix_refine::branch_test;
-use ix_store::{Store, Test};
-use ix_text::{Span, Text};
+use ix_store::Store;
+use ix_text::{List, Span, Text};
 use std::alloc::{AllocError, Global};
 use std::process::Abort;
 

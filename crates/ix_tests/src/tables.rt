@@ -1,12 +1,12 @@
 //! Rows of what the six tables of facts answer.
 
 use crate::known::{are_small, known_beside_path, known_beside_target, landmarks};
-use ix_core::{Fact, List, Op, OpKind, Path, Profile};
+use ix_core::{Fact, Op, OpKind, Path, Profile};
 use ix_fact_rows::{Does, Holds, drawn_facts, is_fact, is_proper, operation, type_of, with_fact};
 use ix_facts::System;
 use ix_lattice::Lattice;
 use ix_systems::{Bounds, Differences, FactsOf, Lengths, Lows, OneKind, Ranges, Searches};
-use ix_text::Span;
+use ix_text::{List, Span};
 use std::alloc::{AllocError, Global};
 use std::process::Abort;
 

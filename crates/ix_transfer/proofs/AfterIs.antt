@@ -1,10 +1,10 @@
 -- The new facts that the code collects are those of the rules.
 use Rattle.std.specs.Prelude.{◌≡◌, List, ◌++◌}
-use Rattle.ix_facts.specs.Type_.{Type_}
-use Rattle.ix_facts.specs.Path.{Path}
-use Rattle.ix_facts.specs.Fact.{Fact}
-use Rattle.ix_facts.specs.Profile.{Profile}
-use Rattle.ix_facts.specs.OpKind.{OpKind}
+use Rattle.ix_core.specs.declared.claim.Type_.{Type_}
+use Rattle.ix_core.specs.declared.fact.Path.{Path}
+use Rattle.ix_core.specs.declared.fact.Fact.{Fact}
+use Rattle.ix_core.specs.declared.fact.Profile.{Profile}
+use Rattle.ix_core.specs.declared.op.OpKind.{OpKind}
 use Rattle.ix_facts.specs.Closure.{kept}
 use Rattle.ix_facts.specs.Exact.{named_ints, named_arrays}
 use Rattle.ix_facts.specs.AfterOperation as after

@@ -2,16 +2,16 @@
 use Rattle.std.specs.Prelude.{◌≡◌, ℤ, pos, negsuc, ◌+ℤ◌, ◌-ℤ◌, int_le, List, [], ◌∷◌, ◌++◌, refl}
 use Rattle.std.specs.Int.{int_min, int_max}
 use Rattle.std.proofs.Common.{ap, ◌∙◌}
-use Rattle.ix_facts.specs.Ints.{least_int, greatest_int}
-use Rattle.ix_facts.specs.Type_.{Type_}
-use Rattle.ix_facts.specs.Path.{Path}
-use Rattle.ix_facts.specs.Path.TheVariants.{Slot}
-use Rattle.ix_facts.specs.PathOff.TheVariants.{Nothing}
-use Rattle.ix_facts.specs.Fact.{Fact}
-use Rattle.ix_facts.specs.Fact.TheVariants.{Rng, LenRng, Low, Same, IsLen, Less, Sum, Search, Neg, Upper}
-use Rattle.ix_facts.specs.Literal.TheVariants as literal
-use Rattle.ix_facts.specs.OpKind.{OpKind}
-use Rattle.ix_facts.specs.OpKind.TheVariants as op
+use Rattle.ix_num.specs.Ints.{least_int, greatest_int}
+use Rattle.ix_core.specs.declared.claim.Type_.{Type_}
+use Rattle.ix_core.specs.declared.fact.Path.{Path}
+use Rattle.ix_core.specs.declared.fact.Path.TheVariants.{Slot}
+use Rattle.ix_core.specs.declared.fact.PathOff.TheVariants.{Nothing}
+use Rattle.ix_core.specs.declared.fact.Fact.{Fact}
+use Rattle.ix_core.specs.declared.fact.Fact.TheVariants.{Rng, LenRng, Low, Same, IsLen, Less, Sum, Search, Neg, Upper}
+use Rattle.ix_core.specs.declared.op.Literal.TheVariants as literal
+use Rattle.ix_core.specs.declared.op.OpKind.{OpKind}
+use Rattle.ix_core.specs.declared.op.OpKind.TheVariants as op
 use Rattle.ix_facts.specs.Bounds
 use Rattle.ix_facts.specs.Bounds.{is_path, at_least, at_most, range_low_by, range_high_by, length_low_by}
 use Rattle.ix_facts.specs.Exact.{if_so, each, each_path, named_ints, named_arrays}

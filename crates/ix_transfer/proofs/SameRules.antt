@@ -3,24 +3,24 @@ use Rattle.std.specs.Prelude.{◌≡◌, ℤ, pos, ◌-ℤ◌, ◌&&◌, int_le,
 use Rattle.std.specs.Int.{int_min, int_max}
 use Rattle.std.specs.Option.{option_map}
 use Rattle.std.proofs.Common.{ap, ◌∙◌}
-use Rattle.ix_facts.specs.Arith.{Arith}
-use Rattle.ix_facts.specs.Arith.TheVariants.{Add, Sub, Mul, Div, Rem, And, Or, Xor, Shl, Shr, Ushr}
-use Rattle.ix_facts.specs.Interval.{Interval}
-use Rattle.ix_facts.specs.Intervals.{normal}
-use Rattle.ix_facts.specs.OpRanges.{op_range}
+use Rattle.ix_num.specs.declared.arith.Arith.{Arith}
+use Rattle.ix_num.specs.declared.arith.Arith.TheVariants.{Add, Sub, Mul, Div, Rem, And, Or, Xor, Shl, Shr, Ushr}
+use Rattle.ix_num.specs.declared.interval.Interval.{Interval}
+use Rattle.ix_num.specs.Intervals.{normal}
+use Rattle.ix_num.specs.OpRanges.{op_range}
 use Rattle.ix_facts.specs.Low.TheVariants as class
-use Rattle.ix_facts.specs.Type_.{Type_}
-use Rattle.ix_facts.specs.Path.{Path}
-use Rattle.ix_facts.specs.Path.TheVariants.{Slot}
-use Rattle.ix_facts.specs.Fact.{Fact}
-use Rattle.ix_facts.specs.Fact.TheVariants.{Rng, LenRng, Same, IsLen, Less}
-use Rattle.ix_facts.specs.Ints.{greatest_int}
-use Rattle.ix_facts.specs.Profile.{Profile}
-use Rattle.ix_facts.specs.Literal.TheVariants as literal
-use Rattle.ix_facts.specs.OpKind.{OpKind}
-use Rattle.ix_facts.specs.OpKind.TheVariants as op
-use Rattle.ix_facts.specs.UnaryNum.{UnaryNum}
-use Rattle.ix_facts.specs.UnaryNum.TheVariants.{Neg as Negated, Flip}
+use Rattle.ix_core.specs.declared.claim.Type_.{Type_}
+use Rattle.ix_core.specs.declared.fact.Path.{Path}
+use Rattle.ix_core.specs.declared.fact.Path.TheVariants.{Slot}
+use Rattle.ix_core.specs.declared.fact.Fact.{Fact}
+use Rattle.ix_core.specs.declared.fact.Fact.TheVariants.{Rng, LenRng, Same, IsLen, Less}
+use Rattle.ix_num.specs.Ints.{greatest_int}
+use Rattle.ix_core.specs.declared.fact.Profile.{Profile}
+use Rattle.ix_core.specs.declared.op.Literal.TheVariants as literal
+use Rattle.ix_core.specs.declared.op.OpKind.{OpKind}
+use Rattle.ix_core.specs.declared.op.OpKind.TheVariants as op
+use Rattle.ix_core.specs.declared.op.UnaryNum.{UnaryNum}
+use Rattle.ix_core.specs.declared.op.UnaryNum.TheVariants.{Neg as Negated, Flip}
 use Rattle.ix_facts.specs.Bounds
 use Rattle.ix_facts.specs.Bounds.{best, least}
 use Rattle.ix_facts.specs.Exact as exact

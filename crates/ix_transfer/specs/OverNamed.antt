@@ -1,15 +1,15 @@
 -- What new facts give together with the stored ones, with what the rules go over as lists of their own: the facts on each path, and the named ints
 -- and arrays. The facts that name a path give what all facts give, and each path once gives what all named paths give.
 use Rattle.std.specs.Prelude.{List, [], ◌++◌}
-use Rattle.ix_facts.specs.Type_.{Type_}
-use Rattle.ix_facts.specs.Path.{Path}
-use Rattle.ix_facts.specs.Path.TheVariants.{Slot}
-use Rattle.ix_facts.specs.Fact.{Fact}
-use Rattle.ix_facts.specs.Fact.TheVariants.{Less}
-use Rattle.ix_facts.specs.Literal.{Literal}
-use Rattle.ix_facts.specs.Literal.TheVariants as literal
-use Rattle.ix_facts.specs.OpKind.{OpKind}
-use Rattle.ix_facts.specs.OpKind.TheVariants as op
+use Rattle.ix_core.specs.declared.claim.Type_.{Type_}
+use Rattle.ix_core.specs.declared.fact.Path.{Path}
+use Rattle.ix_core.specs.declared.fact.Path.TheVariants.{Slot}
+use Rattle.ix_core.specs.declared.fact.Fact.{Fact}
+use Rattle.ix_core.specs.declared.fact.Fact.TheVariants.{Less}
+use Rattle.ix_core.specs.declared.op.Literal.{Literal}
+use Rattle.ix_core.specs.declared.op.Literal.TheVariants as literal
+use Rattle.ix_core.specs.declared.op.OpKind.{OpKind}
+use Rattle.ix_core.specs.declared.op.OpKind.TheVariants as op
 use Rattle.ix_facts.specs.Bounds.{is_path}
 use Rattle.ix_facts.specs.Exact.{if_so, each, each_path}
 use Rattle.ix_facts.specs.AfterOperation.{is_int, is_array, holds_arrays}

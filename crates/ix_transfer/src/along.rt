@@ -6,10 +6,11 @@ ghost use Rattle.ix_facts.specs.Closure.{kept};
 ghost use Rattle.ix_facts.specs.Exact.{if_so, each};
 ghost use Rattle.ix_facts.specs.Finish as rule;
 ghost use Rattle.ix_transfer.specs.OverNamed as over;
-ghost use Rattle.ix_facts.specs.PathOff.TheVariants.{Nothing, Minus};
-ghost use Rattle.ix_facts.specs.Fact.TheVariants.{IsLen, Less, Upper};
+ghost use Rattle.ix_core.specs.declared.fact.PathOff.TheVariants.{Nothing, Minus};
+ghost use Rattle.ix_core.specs.declared.fact.Fact.TheVariants.{IsLen, Less, Upper};
 
-use ix_facts::{Fact, Indexed, Path, PathOff, is_same_path};
+use ix_core::{Fact, Path, PathOff};
+use ix_facts::{Indexed, is_same_path};
 use ix_intervals::{push_less_if, push_upper_if};
 use std::alloc::AllocError;
 

@@ -6,10 +6,11 @@ ghost use Rattle.ix_facts.specs.Closure.{kept};
 ghost use Rattle.ix_facts.specs.Exact.{if_so, each, each_path};
 ghost use Rattle.ix_facts.specs.Facts.{in_orders};
 ghost use Rattle.ix_facts.specs.Finish as rule;
-ghost use Rattle.ix_facts.specs.PathOff.TheVariants.{Nothing};
-ghost use Rattle.ix_facts.specs.Fact.TheVariants.{Less, Upper};
+ghost use Rattle.ix_core.specs.declared.fact.PathOff.TheVariants.{Nothing};
+ghost use Rattle.ix_core.specs.declared.fact.Fact.TheVariants.{Less, Upper};
 
-use ix_facts::{Fact, Know, Path, PathOff};
+use ix_core::{Fact, Path, PathOff};
+use ix_facts::Know;
 use ix_intervals::push_fact;
 use std::alloc::AllocError;
 

@@ -9,9 +9,8 @@ ghost use Rattle.ix_transfer.specs.OverNamed as over;
 use crate::along::push_along;
 use crate::beside::{push_beside_lengths, push_by_ranges};
 use crate::new_ends::{new_high, new_length, new_low};
-use ix_facts::{
-    Fact, Indexed, Literal, OpKind, Path, Type_, holds_arrays, holds_ints, is_array, is_int,
-};
+use ix_core::{Fact, Literal, OpKind, Path, Type_};
+use ix_facts::{Indexed, holds_arrays, holds_ints, is_array, is_int};
 use std::alloc::AllocError;
 
 /// Adds the rest of the facts on an int: along stored differences and bounds, and by ranges. `new` are the new facts, `t` is no int that is known.

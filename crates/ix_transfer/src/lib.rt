@@ -14,6 +14,5 @@ mod new_ends;
 mod new_facts;
 
 pub use finish::{push_finish_array, push_finish_int, push_finished, push_finished_by};
-pub use ix_facts::Indexed;
 pub use ix_transfer_rules::push_claim;
 pub use new_facts::{facts_after, facts_of_copy};

@@ -2,9 +2,10 @@
 
 ghost use Rattle.std.specs.Prelude.{◌≡◌};
 ghost use Rattle.ix_facts.specs.Bounds as spec;
-ghost use Rattle.ix_facts.specs.Fact.TheVariants.{Rng, LenRng, Low};
+ghost use Rattle.ix_core.specs.declared.fact.Fact.TheVariants.{Rng, LenRng, Low};
 
-use ix_facts::{Fact, Path, is_same_path};
+use ix_core::{Fact, Path};
+use ix_facts::is_same_path;
 
 fn low_of(t: &Path, fact: &Fact, low: i64) -> i64
     ensures value { result ≡ spec.at_least low (spec.range_low_by t.now fact.now) }

@@ -8,7 +8,8 @@ ghost use Rattle.ix_facts.specs.After.{kept_new, finished, finished_by};
 ghost use Rattle.ix_facts.specs.SameFacts.{AreSame};
 
 use crate::finish::{push_finished, push_finished_by};
-use ix_facts::{Fact, Indexed, OpKind, Path, Profile, Type_};
+use ix_core::{Fact, OpKind, Path, Profile, Type_};
+use ix_facts::Indexed;
 use ix_transfer_rules::{push_copied, push_new_facts};
 use std::alloc::{AllocError, Global};
 

@@ -2,10 +2,11 @@
 
 ghost use Rattle.std.specs.Prelude.{◌≡◌, ◌++◌, ◌&&◌, OnOk};
 ghost use Rattle.ix_facts.specs.Assume.{claim_facts};
-ghost use Rattle.ix_facts.specs.PathOff.TheVariants.{Nothing};
-ghost use Rattle.ix_facts.specs.Fact.TheVariants.{Rng, LenRng, Low, Same, Less, Search, Neg, Upper};
+ghost use Rattle.ix_core.specs.declared.fact.PathOff.TheVariants.{Nothing};
+ghost use Rattle.ix_core.specs.declared.fact.Fact.TheVariants.{Rng, LenRng, Low, Same, Less, Search, Neg, Upper};
 
-use ix_facts::{Fact, Path, PathClaim, PathOff, is_same_path};
+use ix_core::{Fact, Path, PathClaim, PathOff};
+use ix_facts::is_same_path;
 use ix_intervals::{push_fact, push_if};
 use std::alloc::AllocError;
 

@@ -4,9 +4,10 @@ ghost use Rattle.std.specs.Prelude.{◌≡◌, ◌++◌, ◌∷◌, [], ◌&&◌
 ghost use Rattle.ix_facts.specs.Closure.{kept};
 ghost use Rattle.ix_facts.specs.Exact.{if_so, each};
 ghost use Rattle.ix_facts.specs.AfterOperation as after;
-ghost use Rattle.ix_facts.specs.Fact.TheVariants.{Rng, LenRng, Low, Same, IsLen, Sum, Search, Neg, Upper};
+ghost use Rattle.ix_core.specs.declared.fact.Fact.TheVariants.{Rng, LenRng, Low, Same, IsLen, Sum, Search, Neg, Upper};
 
-use ix_facts::{Base, Fact, Path, PathOff, Type_, is_same_path};
+use ix_core::{Base, Fact, Path, PathOff, Type_};
+use ix_facts::is_same_path;
 use ix_intervals::{push_fact, push_if, push_less, push_upper_if};
 use std::alloc::AllocError;
 

@@ -6,11 +6,12 @@ ghost use Rattle.ix_facts.specs.Exact.{if_so, each, each_path};
 ghost use Rattle.ix_facts.specs.Facts.{in_orders};
 ghost use Rattle.ix_facts.specs.AfterOperation as after;
 ghost use Rattle.ix_transfer_rules.specs.OverParts as over;
-ghost use Rattle.ix_facts.specs.PathOff.TheVariants.{Nothing, Plus};
-ghost use Rattle.ix_facts.specs.Fact.TheVariants.{Rng, LenRng, Same, IsLen, Less, Sum, Search, Neg, Upper};
+ghost use Rattle.ix_core.specs.declared.fact.PathOff.TheVariants.{Nothing, Plus};
+ghost use Rattle.ix_core.specs.declared.fact.Fact.TheVariants.{Rng, LenRng, Same, IsLen, Less, Sum, Search, Neg, Upper};
 
 use crate::plain::is_from;
-use ix_facts::{Fact, Know, Path, PathOff, is_same_path};
+use ix_core::{Fact, Path, PathOff};
+use ix_facts::{Know, is_same_path};
 use ix_intervals::{push_fact, push_if, push_less_if, push_upper, push_upper_if};
 use std::alloc::AllocError;
 

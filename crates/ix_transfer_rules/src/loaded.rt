@@ -4,7 +4,7 @@ ghost use Rattle.std.specs.Prelude.{◌≡◌, ◌++◌, OnOk};
 ghost use Rattle.ix_facts.specs.Closure.{kept};
 ghost use Rattle.ix_facts.specs.AfterOperation as after;
 
-use ix_facts::{Base, Claim, Fact, Path, Type_};
+use ix_core::{Base, Claim, Fact, Path, Type_};
 use ix_intervals::{push_fact, push_if};
 use std::alloc::AllocError;
 

@@ -1,7 +1,7 @@
 //! What each of the sixteen operations gives by its own rule.
 
 ghost use Rattle.std.specs.Prelude.{◌≡◌, ◌++◌, [], length, OnOk};
-ghost use Rattle.ix_facts.specs.Path.TheVariants.{Slot};
+ghost use Rattle.ix_core.specs.declared.fact.Path.TheVariants.{Slot};
 ghost use Rattle.ix_facts.specs.Closure.{kept};
 ghost use Rattle.ix_facts.specs.Facts.{in_orders};
 ghost use Rattle.ix_transfer_rules.specs.OverParts as over;
@@ -10,11 +10,10 @@ use crate::copies::push_copied;
 use crate::lengths::{push_length, push_new_array};
 use crate::loaded::push_loaded;
 use crate::operation::{push_num, push_unary};
-use ix_facts::{
-    Arith, Fact, Indexed, Know, List, Literal, OpKind, Path, Profile, Type_, UnaryNum,
-    holds_arrays, is_array,
-};
+use ix_core::{Fact, List, Literal, OpKind, Path, Profile, Type_, UnaryNum};
+use ix_facts::{Indexed, Know, holds_arrays, is_array};
 use ix_intervals::{push_fact, push_if};
+use ix_num::Arith;
 use std::alloc::AllocError;
 
 /// A literal.

@@ -11,8 +11,10 @@ ghost use Rattle.ix_transfer_rules.specs.OverParts as over;
 use crate::lengths::push_flip;
 use crate::plain::{push_and, push_half, push_product, push_quotient, push_remainder, push_shift};
 use crate::sums::{push_difference, push_sum};
-use ix_facts::{Arith, Fact, Interval, Know, Low, Path, Profile, UnaryNum};
+use ix_core::{Fact, Path, Profile, UnaryNum};
+use ix_facts::{Know, Low};
 use ix_intervals::{exact_interval, fits, push_low, push_range, table_class, unary_interval};
+use ix_num::{Arith, Interval};
 use std::alloc::AllocError;
 
 /// The range and the classes of a result.

@@ -6,9 +6,10 @@ ghost use Rattle.ix_facts.specs.Closure.{kept};
 ghost use Rattle.ix_facts.specs.Exact.{if_so, each};
 ghost use Rattle.ix_facts.specs.Facts.{in_orders};
 ghost use Rattle.ix_facts.specs.AfterOperation as after;
-ghost use Rattle.ix_facts.specs.Fact.TheVariants.{Sum};
+ghost use Rattle.ix_core.specs.declared.fact.Fact.TheVariants.{Sum};
 
-use ix_facts::{Fact, Know, Path, is_same_path};
+use ix_core::{Fact, Path};
+use ix_facts::{Know, is_same_path};
 use ix_intervals::{push_less, push_less_if};
 use std::alloc::AllocError;
 

@@ -7,10 +7,11 @@ ghost use Rattle.ix_facts.specs.Exact.{if_some, each, each_path};
 ghost use Rattle.ix_facts.specs.Facts.{in_orders};
 ghost use Rattle.ix_facts.specs.AfterOperation as after;
 ghost use Rattle.ix_transfer_rules.specs.OverParts as over;
-ghost use Rattle.ix_facts.specs.PathOff.TheVariants.{Nothing, Plus, Minus};
-ghost use Rattle.ix_facts.specs.Fact.TheVariants.{Less, Sum};
+ghost use Rattle.ix_core.specs.declared.fact.PathOff.TheVariants.{Nothing, Plus, Minus};
+ghost use Rattle.ix_core.specs.declared.fact.Fact.TheVariants.{Less, Sum};
 
-use ix_facts::{Fact, Know, Path, PathOff, is_same_path};
+use ix_core::{Fact, Path, PathOff};
+use ix_facts::{Know, is_same_path};
 use ix_intervals::{push_fact, push_less, push_some_less, push_some_upper};
 use std::alloc::AllocError;
 

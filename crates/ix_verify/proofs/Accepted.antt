@@ -13,9 +13,9 @@ use Rattle.ix_facts.proofs.StoreLaws.{below_below}
 use Rattle.ix_flow.specs.Flow.{Point, Rules, RulesLaws, IsFlow, IsLeastFlow, Anything, Avoids}
 use Rattle.ix_flow.specs.Given.{judging, IsDerivedAt}
 use Rattle.ix_flow.proofs.GivenLabels.{all_judged}
-use Rattle.ix_errors.specs.MethodRules.{method_rules}
-use Rattle.ix_errors.proofs.ErrorsWeaker.{errors_weaker}
-use Rattle.ix_errors.proofs.MethodLaws.{method_laws}
+use Rattle.ix_sign.specs.MethodRules.{method_rules}
+use Rattle.ix_sign.proofs.ErrorsWeaker.{errors_weaker}
+use Rattle.ix_sign.proofs.MethodLaws.{method_laws}
 use Rattle.ix_errors.specs.declared.ranked.Ranked.{Ranked}
 use Rattle.ix_soundness.specs.Errors.{NoErrors}
 use Rattle.ix_cert.specs.Labellings.{loops_of}

@@ -13,9 +13,9 @@ use Rattle.ix_facts.specs.Stores.{Stored, IsBelow, SayTheSame}
 use Rattle.ix_flow.specs.Flow.{Point, Rules, RulesLaws, IsFlow, Anything, Avoids}
 use Rattle.ix_flow.specs.Given.{judging, numbered}
 use Rattle.ix_flow.proofs.GivenLabels.{all_judged}
-use Rattle.ix_errors.specs.MethodRules.{method_rules}
-use Rattle.ix_errors.proofs.ErrorsWeaker.{errors_weaker}
-use Rattle.ix_errors.proofs.MethodLaws.{method_laws}
+use Rattle.ix_sign.specs.MethodRules.{method_rules}
+use Rattle.ix_sign.proofs.ErrorsWeaker.{errors_weaker}
+use Rattle.ix_sign.proofs.MethodLaws.{method_laws}
 use Rattle.ix_errors.specs.declared.ranked.Ranked.{Ranked}
 use Rattle.ix_errors.specs.ErrorList.{HasRank, IsErrorList}
 use Rattle.ix_errors.proofs.Lists.{one_list, none_derived}

@@ -4,8 +4,8 @@ use Rattle.std.proofs.lemmas.List.{length-map}
 use Rattle.ix_core.specs.declared.fact.Profile.{Profile}
 use Rattle.ix_core.specs.declared.program.Method.{Method}
 use Rattle.ix_core.specs.declared.program.Program.{Program}
-use Rattle.ix_cert.specs.Store.{Store}
-use Rattle.ix_cert.specs.StoredFacts.{stored}
+use Rattle.ix_store.specs.declared.store.Store.{Store}
+use Rattle.ix_store.specs.StoredFacts.{stored}
 use Rattle.ix_cert.specs.Labellings.{MethodsText, IsLabelling, loops_of}
 
 each_has : (fields number : ℕ) (methods : List Method) (labels : List (List Store)) (text rest : List ℕ) → MethodsText fields number methods (map (map stored) labels) text rest → map length labels ≡ map loops_of methods

@@ -3,8 +3,8 @@ use Rattle.std.proofs.Common.{◌≡◌, ◌⊎◌, inl, inr, ◌↔◌, ℕ, ze
 use Rattle.std.proofs.lemmas.Bool.{cases_Bool, false≢true}
 use Rattle.ix_facts.specs.Stores.{Stored, Unreachable, IsBelow, IsRounded}
 use Rattle.ix_flow.specs.Walk.{IsIn, Joins}
-use Rattle.ix_errors.specs.Store.{Store}
-use Rattle.ix_errors.specs.StoredFacts.{stored}
+use Rattle.ix_store.specs.declared.store.Store.{Store}
+use Rattle.ix_store.specs.StoredFacts.{stored}
 use Rattle.ix_verify.specs.declared.walk.Walk.{Walk}
 use Rattle.ix_verify.specs.AtLabels.{label_of}
 use Rattle.ix_verify.specs.Walking.{IsWalk, labels_in, rules, one_unless, JudgesLoop}

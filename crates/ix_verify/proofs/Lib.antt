@@ -18,9 +18,3 @@ mod Programs
 mod Results
 mod Stores
 mod TextItems
--- Passed on from ix_cert.
-pub use Rattle.ix_cert.proofs.OneMeaning
-pub use Rattle.ix_cert.proofs.SmallPaths
--- Passed on from ix_errors.
-pub use Rattle.ix_errors.proofs.ErrorsWeaker
-pub use Rattle.ix_errors.proofs.MethodLaws

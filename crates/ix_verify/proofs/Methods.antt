@@ -12,10 +12,10 @@ use Rattle.ix_flow.specs.Flow.{Point, Rules, RulesLaws}
 use Rattle.ix_flow.specs.Given.{Fails, IsDerivedAt}
 use Rattle.ix_flow.specs.Walk.{IsIn}
 use Rattle.ix_flow.proofs.WalkExact.{failed_fails, fails_failed, listed_derived, derived_listed, clean_flow}
-use Rattle.ix_errors.specs.MethodRules.{method_rules}
-use Rattle.ix_errors.specs.RuleErrors.{OverridesBy, TextErrors}
-use Rattle.ix_errors.proofs.ErrorsWeaker.{errors_weaker}
-use Rattle.ix_errors.proofs.MethodLaws.{method_laws}
+use Rattle.ix_sign.specs.MethodRules.{method_rules}
+use Rattle.ix_sign.specs.RuleErrors.{OverridesBy, TextErrors}
+use Rattle.ix_sign.proofs.ErrorsWeaker.{errors_weaker}
+use Rattle.ix_sign.proofs.MethodLaws.{method_laws}
 use Rattle.ix_errors.specs.declared.ranked.Ranked.{Ranked}
 use Rattle.ix_errors.specs.Exactly.{IsListed}
 use Rattle.ix_soundness.specs.Errors.{NoErrors}

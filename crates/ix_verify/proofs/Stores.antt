@@ -14,12 +14,12 @@ use Rattle.ix_facts.proofs.StoreLaws.{below_itself, store_above, store_least, jo
 use Rattle.ix_flow.specs.Flow.{Rules}
 use Rattle.ix_flow.specs.Walk.{IsIn, IsLeast, Joins}
 use Rattle.ix_lattice.specs.Lattice.{IsJoin}
-use Rattle.ix_errors.specs.MethodRules.{RoundedGives, method_rules}
-use Rattle.ix_errors.specs.Signs as signs
-use Rattle.ix_errors.specs.Signs.{Adds, entry_facts, told_facts}
-use Rattle.ix_errors.specs.Store.{Store}
-use Rattle.ix_errors.specs.StoredFacts.{stored}
-use Rattle.ix_errors.specs.StoreOrder.{StoreBelow}
+use Rattle.ix_sign.specs.MethodRules.{RoundedGives, method_rules}
+use Rattle.ix_signatures.specs.Signs as signs
+use Rattle.ix_signatures.specs.Signs.{Adds, entry_facts, told_facts}
+use Rattle.ix_store.specs.declared.store.Store.{Store}
+use Rattle.ix_store.specs.StoredFacts.{stored}
+use Rattle.ix_store.specs.StoreOrder.{StoreBelow}
 use Rattle.ix_verify.proofs.OneLandmarks.{one_landmarks}
 
 module _ (program : Program) (method : Method) (profile : Profile) where

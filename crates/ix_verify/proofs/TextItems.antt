@@ -9,7 +9,7 @@ use Rattle.ix_core.specs.declared.error.Error.{Error}
 use Rattle.ix_core.specs.declared.program.Method.{Method}
 use Rattle.ix_core.specs.declared.program.Program.{Program}
 use Rattle.ix_core.specs.Code.{Code, End, Do, If, Break, Continue, Return, Throw, Loop, Condition, item_code, items_code}
-use Rattle.ix_errors.specs.RuleErrors.{OpText}
+use Rattle.ix_sign.specs.RuleErrors.{OpText}
 use Rattle.ix_errors.specs.declared.ranked.Ranked.{Ranked}
 use Rattle.ix_errors.specs.Exactly.{IsListed}
 use Rattle.ix_verify.specs.Walking.{AddsTo, SomewhereIn, SomewhereOf, AddsItem}

@@ -8,8 +8,8 @@ use Rattle.ix_core.specs.Tables.{method_at, body_of}
 use Rattle.ix_facts.specs.Stores.{Stored, Unreachable}
 use Rattle.ix_flow.specs.Flow.{Point}
 use Rattle.ix_flow.specs.Given.{Fails, IsDerivedAt}
-use Rattle.ix_errors.specs.MethodRules.{method_rules}
-use Rattle.ix_errors.specs.RuleErrors.{PointErrors, TextErrors}
+use Rattle.ix_sign.specs.MethodRules.{method_rules}
+use Rattle.ix_sign.specs.RuleErrors.{PointErrors, TextErrors}
 use Rattle.ix_errors.specs.declared.ranked.Ranked.{Ranked}
 
 -- what a store gives at a point

@@ -7,7 +7,7 @@ use Rattle.ix_core.specs.declared.program.Program.{Program}
 use Rattle.ix_core.specs.Tables.{method_at}
 use Rattle.ix_facts.specs.Stores.{Stored}
 use Rattle.ix_errors.specs.ErrorList.{In, IsErrorList}
-use Rattle.ix_errors.specs.Naming.{HaveSmallNames}
+use Rattle.ix_signatures.specs.Naming.{HaveSmallNames}
 use Rattle.ix_errors.specs.declared.ranked.Ranked.{Ranked}
 use Rattle.ix_soundness.specs.Sound.{HasNoErrors}
 use Rattle.ix_verify.specs.declared.audit_answer.Audit.{Audit}

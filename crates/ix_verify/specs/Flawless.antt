@@ -6,8 +6,8 @@ use Rattle.ix_core.specs.declared.program.Program.{Program}
 use Rattle.ix_core.specs.Tables.{method_at, body_of}
 use Rattle.ix_facts.specs.Stores.{Stored}
 use Rattle.ix_flow.specs.Flow.{IsFlow, IsLeastFlow, IsDerived}
-use Rattle.ix_errors.specs.MethodRules.{method_rules}
-use Rattle.ix_errors.specs.RuleErrors.{TextErrors}
+use Rattle.ix_sign.specs.MethodRules.{method_rules}
+use Rattle.ix_sign.specs.RuleErrors.{TextErrors}
 use Rattle.ix_soundness.specs.Errors.{NoErrors}
 use Rattle.ix_verify.specs.AtLabels.{Derives}
 use Rattle.ix_verify.specs.Audited.{NoneFails, IsErrorBelow}

@@ -13,10 +13,10 @@ use Rattle.ix_facts.specs.MethodLandmarks.{AreLandmarksOf}
 use Rattle.ix_facts.specs.Stores.{Stored, Unreachable}
 use Rattle.ix_flow.specs.Flow.{Point, Rules}
 use Rattle.ix_flow.specs.Walk.{Notes, IsIn, Joins, Adds, Judges, Walks, Splits, WalksBody}
-use Rattle.ix_errors.specs.MethodRules.{method_rules}
-use Rattle.ix_errors.specs.Naming.{HasSmallNames, HaveSmallNames}
-use Rattle.ix_errors.specs.RuleErrors.{OpText, TestEscapes, Somewhere, SomewhereAsked}
-use Rattle.ix_errors.specs.StoredFacts.{stored}
+use Rattle.ix_sign.specs.MethodRules.{method_rules}
+use Rattle.ix_signatures.specs.Naming.{HasSmallNames, HaveSmallNames}
+use Rattle.ix_sign.specs.RuleErrors.{OpText, TestEscapes, Somewhere, SomewhereAsked}
+use Rattle.ix_store.specs.StoredFacts.{stored}
 use Rattle.ix_errors.specs.declared.ranked.Ranked.{Ranked}
 use Rattle.ix_errors.specs.Exactly.{IsListed}
 use Rattle.ix_verify.specs.declared.walk.Found.{Found}

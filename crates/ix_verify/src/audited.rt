@@ -1,13 +1,15 @@
 //! The audit of a whole program.
 
 ghost use Rattle.std.specs.Prelude.{◌≡◌, ◌+◌, [], map, slice_get, unwrap_or, IfOk};
-ghost use Rattle.ix_errors.specs.StoredFacts.{stored};
+ghost use Rattle.ix_store.specs.StoredFacts.{stored};
 ghost use Rattle.ix_verify.specs.Audited as spec;
 
 use crate::audit_answer::Audit;
 use crate::method::audit_method;
-use ix_core::{List, Profile, Program};
-use ix_errors::{Ranked, Store, list_errors};
+use ix_core::{Profile, Program};
+use ix_errors::{Ranked, list_errors};
+use ix_store::Store;
+use ix_text::List;
 use std::alloc::{AllocError, Global};
 
 /// The labels of a method.

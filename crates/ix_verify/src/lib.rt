@@ -23,8 +23,6 @@ mod walk;
 pub use answer::{CertError, Verified};
 pub use audit_answer::Audit;
 pub use audited::audit;
-pub use ix_cert::read;
 pub use ix_errors::Store;
-pub use ix_soundness::soundness;
 pub use laws::{labels_are_judged_alike, what_is_written_is_accepted};
 pub use verifying::verify;

@@ -4,9 +4,9 @@ ghost use Rattle.std.specs.Prelude.{◌≡◌, ◌<◌, [], length, IfOk, IfNone
 ghost use Rattle.std.specs.Option.{ForSome};
 ghost use Rattle.ix_core.specs.declared.error.Error.{Error};
 ghost use Rattle.ix_core.specs.Tables.{method_at};
-ghost use Rattle.ix_errors.specs.Naming.{HasSmallNames, HaveSmallNames};
-ghost use Rattle.ix_errors.specs.RuleErrors.{OverridesBy};
-ghost use Rattle.ix_errors.specs.StoredFacts.{stored};
+ghost use Rattle.ix_signatures.specs.Naming.{HasSmallNames, HaveSmallNames};
+ghost use Rattle.ix_sign.specs.RuleErrors.{OverridesBy};
+ghost use Rattle.ix_store.specs.StoredFacts.{stored};
 ghost use Rattle.ix_soundness.specs.Sound.{HasNoErrors};
 ghost use Rattle.ix_verify.specs.AtLabels as at;
 ghost use Rattle.ix_verify.specs.Walking as spec;
@@ -14,8 +14,9 @@ ghost use Rattle.ix_verify.specs.Walking as spec;
 use crate::texts::push_of_block;
 use crate::walk::{Findings, Walk};
 use ix_core::{Method, Profile, Program};
-use ix_errors::{Ranked, Store, push_override_errors};
+use ix_errors::{Ranked, push_override_errors};
 use ix_landmarks::landmarks;
+use ix_store::Store;
 use std::alloc::{AllocError, Global};
 
 /// The walk over a method's body.

@@ -2,7 +2,7 @@
 
 ghost use Rattle.std.specs.Prelude.{OnOk};
 ghost use Rattle.ix_core.specs.Code.{block_code, cond_code, item_code};
-ghost use Rattle.ix_errors.specs.RuleErrors.{OpText};
+ghost use Rattle.ix_sign.specs.RuleErrors.{OpText};
 ghost use Rattle.ix_verify.specs.Walking as spec;
 
 use ix_core::{Block, Cond, Item, Method, Op, Program};

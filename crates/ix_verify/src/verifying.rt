@@ -5,7 +5,7 @@ ghost use Rattle.ix_core.specs.declared.fact.Profile.{Profile as Found};
 ghost use Rattle.ix_core.specs.Formed.{Formed};
 ghost use Rattle.ix_core.specs.Safe.{Safe};
 ghost use Rattle.ix_facts.specs.Stores.{Stored};
-ghost use Rattle.ix_cert.specs.StoredFacts.{stored};
+ghost use Rattle.ix_store.specs.StoredFacts.{stored};
 ghost use Rattle.ix_cert.specs.Labellings.{IsLabelling, loops_of};
 ghost use Rattle.ix_verify.specs.Flawless.{AreFlawless};
 ghost use Rattle.ix_verify.specs.declared.answer.CertError.TheVariants.{Memory};
@@ -16,9 +16,10 @@ use crate::answer::{CertError, Verified};
 use crate::audit_answer::Audit;
 use crate::audited::audit;
 use ix_cert::read;
-use ix_core::{Error, List, Method, Profile, Program};
-use ix_errors::Store;
+use ix_core::{Error, Method, Profile, Program};
 use ix_soundness::soundness;
+use ix_store::Store;
+use ix_text::List;
 use std::alloc::{AllocError, Global};
 
 /// How many of a method's labels stand in a text.

@@ -6,19 +6,21 @@ ghost use Rattle.ix_flow.specs.Flow.{Doing, Returning, Ending};
 ghost use Rattle.ix_core.specs.Tables.{body_of};
 ghost use Rattle.ix_flow.specs.Walk.{IsLeast, Joins, WalksBody};
 ghost use Rattle.ix_errors.specs.Exactly.{IsListed};
-ghost use Rattle.ix_errors.specs.StoredFacts.{stored};
+ghost use Rattle.ix_store.specs.StoredFacts.{stored};
 ghost use Rattle.ix_verify.specs.AtLabels.{label_of};
 ghost use Rattle.ix_verify.specs.Walking as spec;
 
 use crate::done::{last_op, op_of, written_answer};
 use ix_core::{Block, Cond, Item, Method, Op, Profile, Program};
 use ix_errors::{
-    Ranked, Store, after, enter, push_constructor_errors, push_missing_return, push_op_errors,
-    push_post_errors, push_return_errors, tell,
+    Ranked, push_constructor_errors, push_missing_return, push_op_errors, push_post_errors,
+    push_return_errors,
 };
 use ix_facts::Landmarks;
 use ix_lattice::Lattice;
 use ix_refine::branch_test;
+use ix_sign::{after, enter, tell};
+use ix_store::Store;
 use ix_text::Span;
 use std::alloc::{AllocError, Global};
 use std::mem;

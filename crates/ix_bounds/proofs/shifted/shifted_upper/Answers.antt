@@ -1,7 +1,7 @@
 use Rattle.std.proofs.Common.{ap, ◌∙◌}
 use Rattle.std.specs.Prelude.{List, Option, ℤ}
 use Rattle.std.specs.Int.{int_max}
-use Rattle.ix_facts.specs.Fact.{Fact}
+use Rattle.ix_core.specs.declared.fact.Fact.{Fact}
 use Rattle.ix_facts.specs.Bounds as spec
 use Rattle.ix_facts.specs.Exact.{each}
 use Rattle.ix_bounds.specs.OnArrays.{alike_on}

@@ -1,7 +1,7 @@
 use Rattle.std.proofs.Common.{◌≡◌, drop}
 use Rattle.std.specs.Prelude.{IfSome}
 use Rattle.std.specs.Int.{int_max}
-use Rattle.ix_facts.specs.Ints.{IsInt}
+use Rattle.ix_num.specs.Ints.{IsInt}
 use Rattle.ix_facts.specs.Bounds as spec
 use Rattle.ix_bounds.proofs.stored.stored_upper_on.Given as goal
 

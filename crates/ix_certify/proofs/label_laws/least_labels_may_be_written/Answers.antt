@@ -1,4 +1,4 @@
-use Rattle.ix_cert.proofs.OwnFacts.{own_facts}
+use Rattle.ix_store.proofs.OwnFacts.{own_facts}
 use Rattle.ix_certify.proofs.LeastLabels.{one_method, all_methods}
 use Rattle.ix_certify.proofs.label_laws.least_labels_may_be_written.Goals as goal
 

@@ -1,9 +1,9 @@
 use Rattle.std.proofs.Common.{rules, ◌≡◌, ℕ, List, length, map, slice_get, Some}
 use Rattle.std.proofs.lemmas.Result.{IfOk-weaker}
 use Rattle.ix_core.specs.Tables.{method_at}
-use Rattle.ix_check.specs.LoopLabels.{AreLoopLabels}
-use Rattle.ix_cert.specs.Store.{Store}
-use Rattle.ix_cert.specs.StoredFacts.{stored}
+use Rattle.ix_labels.specs.LoopLabels.{AreLoopLabels}
+use Rattle.ix_store.specs.declared.store.Store.{Store}
+use Rattle.ix_store.specs.StoredFacts.{stored}
 use Rattle.ix_certify.proofs.Least.{all_least}
 use Rattle.ix_certify.proofs.writing.certificate.Goals as goal
 

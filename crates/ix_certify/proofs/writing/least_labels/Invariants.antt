@@ -1,7 +1,7 @@
 use Rattle.std.proofs.Common.{◌≡◌, ℕ, List, length, slice_get, Some}
 use Rattle.ix_core.specs.Tables.{method_at}
-use Rattle.ix_check.specs.LoopLabels.{AreLoopLabels}
-use Rattle.ix_cert.specs.Store.{Store}
+use Rattle.ix_labels.specs.LoopLabels.{AreLoopLabels}
+use Rattle.ix_store.specs.declared.store.Store.{Store}
 use Rattle.ix_certify.proofs.writing.least_labels.Given as goal
 
 abbrev pub invariant-loop-number : goal.invariant-loop-number

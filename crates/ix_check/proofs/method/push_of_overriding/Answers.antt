@@ -1,10 +1,10 @@
 use Rattle.std.proofs.Common.{◌<◌, ◌⊎◌, length, sym, subst}
 use Rattle.std.proofs.lemmas.Result.{on_ok_weaker}
 use Rattle.ix_core.specs.declared.program.Method.{Method}
-use Rattle.ix_labels.specs.RuleErrors.{OverridesBy}
+use Rattle.ix_sign.specs.RuleErrors.{OverridesBy}
 use Rattle.ix_errors.specs.Exactly.{AddsExactly}
-use Rattle.ix_labels.specs.Naming.{HasSmallNames}
-use Rattle.ix_labels.specs.SignErrors.{OverrideParameter, OverrideResult, OverrideEffect}
+use Rattle.ix_signatures.specs.Naming.{HasSmallNames}
+use Rattle.ix_signatures.specs.SignErrors.{OverrideParameter, OverrideResult, OverrideEffect}
 use Rattle.ix_check.proofs.Added.{method_is}
 use Rattle.ix_check.proofs.method.push_of_overriding.Goals as goal
 

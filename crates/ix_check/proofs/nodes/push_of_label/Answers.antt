@@ -2,7 +2,7 @@ use Rattle.std.proofs.Common.{sym, subst}
 use Rattle.ix_graph.specs.Built.{kind_of}
 use Rattle.ix_errors.specs.Exactly.{AddsExactly}
 use Rattle.ix_errors.proofs.Refused.{adds_both}
-use Rattle.ix_labels.specs.StoredFacts.{stored}
+use Rattle.ix_store.specs.StoredFacts.{stored}
 use Rattle.ix_check.specs.NodeErrors.{LabelGives}
 use Rattle.ix_check.proofs.Added.{three_ok}
 use Rattle.ix_check.proofs.nodes.push_of_label.Goals as goal

@@ -3,7 +3,7 @@ use Rattle.ix_graph.specs.declared.node.Node.{Node}
 use Rattle.ix_graph.specs.Built.{kind_of}
 use Rattle.ix_labels.specs.Filled.{nodes_of, IsLabel}
 use Rattle.ix_labels.specs.Runs.{node_in_turn}
-use Rattle.ix_labels.specs.StoredFacts.{stored}
+use Rattle.ix_store.specs.StoredFacts.{stored}
 use Rattle.ix_labels.proofs.Filling.{AreMade, none_made, one_made, last_label, ordered, all_filled}
 use Rattle.ix_errors.specs.Exactly.{AddsExactly}
 use Rattle.ix_check.specs.NodeErrors.{NodeGives}

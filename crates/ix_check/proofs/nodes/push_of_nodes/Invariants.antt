@@ -1,6 +1,6 @@
 use Rattle.std.proofs.Common.{◌≡◌, List}
 use Rattle.ix_labels.specs.Filled.{nodes_of}
-use Rattle.ix_labels.specs.Store.{Store}
+use Rattle.ix_store.specs.declared.store.Store.{Store}
 use Rattle.ix_labels.proofs.Filling.{AreMade, before_in}
 use Rattle.ix_errors.specs.Exactly.{AddsExactly}
 use Rattle.ix_check.specs.NodeErrors.{NodeGives}

@@ -1,8 +1,8 @@
 use Rattle.std.proofs.Common.{sym, subst}
 use Rattle.ix_graph.specs.Built.{kind_of}
-use Rattle.ix_labels.specs.RuleErrors.{AssignsNamed, OpEscapes}
+use Rattle.ix_sign.specs.RuleErrors.{AssignsNamed, OpEscapes}
 use Rattle.ix_errors.specs.Exactly.{AddsExactly}
-use Rattle.ix_labels.specs.SignErrors.{EffectWrite}
+use Rattle.ix_signatures.specs.SignErrors.{EffectWrite}
 use Rattle.ix_errors.proofs.Refused.{adds_both}
 use Rattle.ix_check.specs.NodeErrors.{TextGives}
 use Rattle.ix_check.proofs.Added.{three_ok}

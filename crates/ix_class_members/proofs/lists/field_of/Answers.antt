@@ -1,7 +1,7 @@
 use Rattle.std.proofs.Common.{rules, ◌≡◌, ◌∙◌, ap}
 use Rattle.std.specs.HashMap.{get_by_text}
 use Rattle.ix_tree.specs.declared.annot.Mods.{Mods}
-use Rattle.ix_symbols.specs.Members as spec
+use Rattle.ix_meaning.specs.Members as spec
 use Rattle.ix_class_members.specs.Begun.{annotated}
 use Rattle.ix_class_members.proofs.lists.field_of.Goals as goal
 

@@ -1,7 +1,7 @@
 use Rattle.std.proofs.Common.{◌≡◌, ◌++◌, ◌+◌, ◌≤◌, drop}
 use Rattle.std.specs.HashMap.{get_by_text}
-use Rattle.ix_symbols.specs.Members as spec
-use Rattle.ix_symbols.specs.Source.{members_in}
+use Rattle.ix_meaning.specs.Members as spec
+use Rattle.ix_meaning.specs.Source.{members_in}
 use Rattle.ix_class_members.proofs.lists.fields.Given as goal
 
 abbrev pub invariant-loop-c : goal.invariant-loop-c

@@ -1,6 +1,6 @@
 use Rattle.std.proofs.Common.{◌≡◌, ◌++◌, drop}
 use Rattle.std.specs.HashMap.{get_by_text}
-use Rattle.ix_symbols.specs.Members as spec
+use Rattle.ix_meaning.specs.Members as spec
 use Rattle.ix_class_members.proofs.lists.methods.Given as goal
 
 abbrev pub invariant-loop-c : goal.invariant-loop-c

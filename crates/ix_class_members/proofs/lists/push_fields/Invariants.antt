@@ -1,7 +1,7 @@
 use Rattle.std.proofs.Common.{◌≡◌, ◌++◌, ◌+◌, ◌≤◌, drop, option_map}
 use Rattle.std.specs.HashMap.{get_by_text}
 use Rattle.ix_meaning.specs.Declarators as declared
-use Rattle.ix_symbols.specs.Members as spec
+use Rattle.ix_meaning.specs.Members as spec
 use Rattle.ix_class_members.specs.Begun.{AllBegin, first_shown}
 use Rattle.ix_class_members.proofs.lists.push_fields.Given as goal
 

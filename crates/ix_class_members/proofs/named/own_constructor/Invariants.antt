@@ -1,5 +1,5 @@
 use Rattle.std.proofs.Common.{◌≡◌, None, drop}
-use Rattle.ix_symbols.specs.Members.{is_constructor_named}
+use Rattle.ix_meaning.specs.Members.{is_constructor_named}
 use Rattle.ix_class_members.specs.First.{first_where}
 use Rattle.ix_class_members.proofs.named.own_constructor.Given as goal
 

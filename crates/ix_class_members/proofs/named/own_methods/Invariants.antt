@@ -1,6 +1,6 @@
 use Rattle.std.proofs.Common.{◌≡◌, ℕ, List, None, drop}
 use Rattle.std.specs.HashMap.{get_by_text}
-use Rattle.ix_symbols.specs.Members.{is_method_named}
+use Rattle.ix_meaning.specs.Members.{is_method_named}
 use Rattle.ix_class_members.specs.First.{first_where}
 use Rattle.ix_class_members.proofs.named.own_methods.Given as goal
 

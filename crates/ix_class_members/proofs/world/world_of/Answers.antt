@@ -1,7 +1,7 @@
 use Rattle.std.proofs.Common.{rules, ◌≡◌, ◌∙◌, ap, length}
 use Rattle.std.specs.HashMap.{get_by_text}
-use Rattle.ix_symbols.specs.Classes.{class_named, parents_by}
-use Rattle.ix_symbols.specs.Members.{fields_from, methods_from}
+use Rattle.ix_meaning.specs.Classes.{class_named, parents_by}
+use Rattle.ix_meaning.specs.Members.{fields_from, methods_from}
 use Rattle.ix_class_members.specs.World as spec
 use Rattle.ix_class_members.proofs.Worlds.{is_world}
 use Rattle.ix_class_members.proofs.world.world_of.Goals as goal

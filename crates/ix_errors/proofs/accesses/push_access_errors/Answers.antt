@@ -1,4 +1,4 @@
-use Rattle.ix_sign.specs.StoredFacts.{stored}
+use Rattle.ix_store.specs.StoredFacts.{stored}
 use Rattle.ix_sign.specs.RuleErrors.{AccessLow, AccessHigh}
 use Rattle.ix_errors.proofs.Refused.{adds_both}
 use Rattle.ix_text.proofs.Chained.{both_ok}

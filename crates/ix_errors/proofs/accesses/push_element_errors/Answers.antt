@@ -1,4 +1,4 @@
-use Rattle.ix_sign.specs.StoredFacts.{stored}
+use Rattle.ix_store.specs.StoredFacts.{stored}
 use Rattle.ix_errors.proofs.Refused.{ok_adds}
 use Rattle.ix_errors.specs.Lists.{element_refusals}
 use Rattle.ix_sign.specs.RuleErrors.{ElementClaim}

@@ -1,7 +1,7 @@
 use Rattle.std.specs.Prelude.{◌≡◌, ◌++◌, OnOk}
 use Rattle.std.proofs.Common.{subst}
 use Rattle.ix_core.specs.declared.error.Subject.TheVariants.{Element}
-use Rattle.ix_sign.specs.StoredFacts.{stored}
+use Rattle.ix_store.specs.StoredFacts.{stored}
 use Rattle.ix_errors.specs.Refusals.{refusals}
 use Rattle.ix_errors.proofs.Refused.{ok_adds}
 use Rattle.ix_errors.specs.Lists.{fresh_refusals, zero_fails}

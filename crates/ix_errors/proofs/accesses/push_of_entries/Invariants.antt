@@ -1,5 +1,5 @@
 use Rattle.std.proofs.Common.{◌≡◌, ◌++◌, drop}
-use Rattle.ix_sign.specs.StoredFacts.{stored}
+use Rattle.ix_store.specs.StoredFacts.{stored}
 use Rattle.ix_errors.specs.Lists.{entry_refusals}
 use Rattle.ix_errors.proofs.accesses.push_of_entries.Given as goal
 

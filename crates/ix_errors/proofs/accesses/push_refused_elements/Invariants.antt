@@ -1,7 +1,7 @@
 use Rattle.std.proofs.Common.{◌≡◌, ◌++◌, drop}
 use Rattle.ix_core.specs.declared.error.Subject.TheVariants.{Element}
 use Rattle.ix_core.specs.declared.fact.Path.TheVariants.{Slot}
-use Rattle.ix_sign.specs.StoredFacts.{stored}
+use Rattle.ix_store.specs.StoredFacts.{stored}
 use Rattle.ix_errors.specs.Refusals.{refusals, not_proved}
 use Rattle.ix_sign.specs.RuleErrors.{no_path}
 use Rattle.ix_errors.proofs.accesses.push_refused_elements.Given as goal

@@ -1,6 +1,6 @@
 use Rattle.std.proofs.Common.{◌≡◌, ◌++◌, drop}
 use Rattle.ix_core.specs.declared.error.Subject.TheVariants.{Element}
-use Rattle.ix_sign.specs.StoredFacts.{stored}
+use Rattle.ix_store.specs.StoredFacts.{stored}
 use Rattle.ix_errors.specs.Refusals.{refusals}
 use Rattle.ix_errors.specs.Lists.{zero_fails}
 use Rattle.ix_errors.proofs.accesses.push_refused_zeros.Given as goal

@@ -2,7 +2,7 @@ use Rattle.std.proofs.Common.{◌≡◌, ◌++◌, sym, subst}
 use Rattle.std.specs.Prelude.{OnOk, Some}
 use Rattle.ix_core.specs.declared.error.Subject.TheVariants as subject
 use Rattle.ix_core.specs.declared.fact.Path.TheVariants.{Slot}
-use Rattle.ix_signatures.specs.MachineSteps.{own_path}
+use Rattle.ix_rules_hold.specs.MachineSteps.{own_path}
 use Rattle.ix_store.specs.StoredFacts.{stored}
 use Rattle.ix_errors.specs.Exactly.{AddsExactly}
 use Rattle.ix_errors.specs.Refusals.{refusals, not_proved}

@@ -1,12 +1,12 @@
 use Rattle.std.specs.Prelude.{◌≡◌, ◌++◌, OnOk, Some, option_map}
 use Rattle.std.proofs.Common.{ap, sym, ◌∙◌, subst}
 use Rattle.ix_core.specs.declared.fact.Path.TheVariants.{Slot}
-use Rattle.ix_signatures.specs.MachineSteps.{own_path}
-use Rattle.ix_sign.specs.StoredFacts.{stored}
+use Rattle.ix_rules_hold.specs.MachineSteps.{own_path}
+use Rattle.ix_store.specs.StoredFacts.{stored}
 use Rattle.ix_errors.specs.Exactly.{AddsExactly}
-use Rattle.ix_sign.specs.Names.{variable_at}
+use Rattle.ix_signatures.specs.Names.{variable_at}
 use Rattle.ix_errors.specs.Refusals.{refusals, not_proved}
-use Rattle.ix_sign.specs.SignErrors.{part}
+use Rattle.ix_signatures.specs.SignErrors.{part}
 use Rattle.ix_errors.proofs.Refused.{ok_adds}
 use Rattle.ix_sign.specs.RuleErrors.{subject_of, AssignClaim}
 use Rattle.ix_sign.specs.Shown.{shown}

@@ -1,8 +1,8 @@
 use Rattle.std.specs.Prelude.{◌⊎◌, OnOk}
 use Rattle.std.proofs.Common.{sym, subst}
-use Rattle.ix_sign.specs.StoredFacts.{stored}
+use Rattle.ix_store.specs.StoredFacts.{stored}
 use Rattle.ix_errors.specs.Exactly.{AddsExactly}
-use Rattle.ix_sign.specs.SignErrors.{part, FieldClaim, FieldDependent}
+use Rattle.ix_signatures.specs.SignErrors.{part, FieldClaim, FieldDependent}
 use Rattle.ix_sign.specs.RuleErrors.{EntryClaim, KindErrors}
 use Rattle.ix_errors.proofs.op_errors.push_op_errors.Goals as goal
 

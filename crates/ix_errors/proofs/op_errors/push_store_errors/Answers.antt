@@ -1,8 +1,8 @@
 use Rattle.std.specs.Prelude.{◌⊎◌, OnOk}
 use Rattle.std.proofs.Common.{subst}
-use Rattle.ix_sign.specs.StoredFacts.{stored}
+use Rattle.ix_store.specs.StoredFacts.{stored}
 use Rattle.ix_errors.specs.Exactly.{AddsExactly}
-use Rattle.ix_sign.specs.SignErrors.{part}
+use Rattle.ix_signatures.specs.SignErrors.{part}
 use Rattle.ix_errors.proofs.Refused.{adds_both}
 use Rattle.ix_text.proofs.Chained.{both_ok}
 use Rattle.ix_sign.specs.RuleErrors.{AccessLow, AccessHigh, ElementClaim}

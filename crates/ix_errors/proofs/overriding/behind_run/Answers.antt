@@ -3,7 +3,7 @@ use Rattle.std.specs.Prelude.{None, IfOk}
 use Rattle.ix_core.specs.Tables.{param_slots}
 use Rattle.ix_facts.specs.Stores.{IsAdded, IsForgotten}
 use Rattle.ix_facts.specs.Systems.{HaveClasses}
-use Rattle.ix_store.specs.ChangedPaths.{of_called}
+use Rattle.ix_fact_paths.specs.ChangedPaths.{of_called}
 use Rattle.ix_store.specs.StoredFacts.{stored}
 use Rattle.ix_errors.proofs.OverridesRefused.{own_have, behind_added}
 use Rattle.ix_errors.proofs.overriding.behind_run.Goals as goal

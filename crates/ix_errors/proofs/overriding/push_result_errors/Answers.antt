@@ -3,7 +3,7 @@ use Rattle.std.specs.Prelude.{OnOk}
 use Rattle.ix_core.specs.declared.error.Subject.TheVariants as subject
 use Rattle.ix_core.specs.declared.fact.Path.TheVariants.{Slot}
 use Rattle.ix_core.specs.Tables.{param_slots}
-use Rattle.ix_signatures.specs.MachineSteps.{own_path}
+use Rattle.ix_rules_hold.specs.MachineSteps.{own_path}
 use Rattle.ix_store.specs.StoredFacts.{stored}
 use Rattle.ix_errors.specs.Refusals.{refusals, not_proved}
 use Rattle.ix_signatures.specs.SignErrors.{OverrideResult}

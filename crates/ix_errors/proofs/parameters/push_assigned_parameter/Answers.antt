@@ -1,6 +1,6 @@
 use Rattle.std.specs.Prelude.{◌≡◌, ◌++◌, ◌∷◌, [], OnOk}
 use Rattle.std.proofs.Common.{sym, ◌∙◌, subst, append-nil}
-use Rattle.ix_sign.specs.SignErrors.{plain, part}
+use Rattle.ix_signatures.specs.SignErrors.{plain, part}
 use Rattle.ix_errors.proofs.Refused.{ok_adds}
 use Rattle.ix_sign.specs.RuleErrors.{AssignsNamed}
 use Rattle.ix_errors.proofs.NamedParameters.{named_error, not_named}

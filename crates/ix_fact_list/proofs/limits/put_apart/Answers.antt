@@ -1,7 +1,7 @@
 use Rattle.std.proofs.Common.{rules, ◌≡◌, pos, ◌+ℤ◌, ◌-ℤ◌, Some, nat_eq, get_or, w32, w64, to_z, of_z, ap, sym, subst, ◌∙◌}
 use Rattle.std.proofs.lemmas.Int.{to_z-of_z}
 use Rattle.std.proofs.lemmas.Result.{on_ok_weaker}
-use Rattle.ix_core.specs.Ints.{least_int, greatest_int}
+use Rattle.ix_num.specs.Ints.{least_int, greatest_int}
 use Rattle.ix_facts.specs.Bounds.{at_least, at_most, when}
 use Rattle.ix_facts.specs.Small.{IsEnd, IsLimit}
 use Rattle.ix_fact_list.proofs.NearRaised.{told_by, raised_small, lowered_small}

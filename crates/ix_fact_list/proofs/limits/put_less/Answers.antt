@@ -1,6 +1,6 @@
 use Rattle.std.proofs.Common.{rules, ◌≡◌, get_or, w32, to_z, of_z, ap, sym, subst, ◌∙◌}
 use Rattle.std.proofs.lemmas.Result.{on_ok_weaker}
-use Rattle.ix_core.specs.Ints.{least_int, greatest_int}
+use Rattle.ix_num.specs.Ints.{least_int, greatest_int}
 use Rattle.ix_facts.specs.Bounds as spec
 use Rattle.ix_facts.specs.Small.{IsEnd}
 use Rattle.ix_fact_list.proofs.NearRaised.{range_low_small, range_high_small, less_raised, less_lowered}

@@ -1,7 +1,7 @@
 use Rattle.std.proofs.Common.{rules, ◌≡◌, Some, w64, to_z, of_z, ap, sym, subst, ◌∙◌}
 use Rattle.std.proofs.lemmas.Int.{to_z-of_z}
 use Rattle.std.proofs.lemmas.Result.{on_ok_weaker}
-use Rattle.ix_core.specs.Ints.{least_int}
+use Rattle.ix_num.specs.Ints.{least_int}
 use Rattle.ix_facts.specs.Bounds.{is_path, when, lower_by}
 use Rattle.ix_facts.specs.Small.{IsLimit}
 use Rattle.ix_fact_list.proofs.NearRaised.{raised_as}

@@ -1,7 +1,7 @@
 use Rattle.std.proofs.Common.{rules, ◌≡◌, get_or, nat_eq, Some, w64, to_z, of_z, ap, subst, ◌∙◌}
 use Rattle.std.proofs.lemmas.Int.{to_z-of_z}
 use Rattle.std.proofs.lemmas.Result.{on_ok_weaker}
-use Rattle.ix_core.specs.Ints.{greatest_int}
+use Rattle.ix_num.specs.Ints.{greatest_int}
 use Rattle.ix_facts.specs.Bounds.{at_least, at_most, when}
 use Rattle.ix_fact_list.proofs.NearRaised.{raised, lowered}
 use Rattle.ix_fact_list.proofs.limits.put_range.Goals as goal

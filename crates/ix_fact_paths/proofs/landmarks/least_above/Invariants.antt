@@ -1,7 +1,7 @@
 use Rattle.std.proofs.Common.{◌≡◌, drop}
 use Rattle.std.specs.Prelude.{IfSome}
 use Rattle.std.specs.Int.{int_min}
-use Rattle.ix_facts.specs.Ints.{IsInt}
+use Rattle.ix_num.specs.Ints.{IsInt}
 use Rattle.ix_facts.specs.Bounds.{best}
 use Rattle.ix_facts.specs.Round.{mark_above}
 use Rattle.ix_fact_paths.proofs.landmarks.least_above.Given as goal

@@ -1,7 +1,7 @@
 use Rattle.std.proofs.Common.{◌≡◌, ◌||◌, drop}
 use Rattle.std.specs.List.{list_any}
 use Rattle.std.specs.HashSet.{contains}
-use Rattle.ix_symbols.specs.Listed.{same_span}
+use Rattle.ix_meaning.specs.Listed.{same_span}
 use Rattle.ix_text.specs.declared.span.Span.{Span}
 use Rattle.ix_guard.specs.Tests as spec
 use Rattle.ix_guard.proofs.site.unproved_places.Given as goal

@@ -2,7 +2,7 @@ use Rattle.std.proofs.Common.{◌≤◌, ◌+◌, Vec, refl, sym, subst}
 use Rattle.std.specs.declared.alloc.Global.{Global}
 use Rattle.ix_core.specs.Code.{block_code}
 use Rattle.ix_graph.specs.declared.node.Graph.{Graph}
-use Rattle.ix_sign.specs.Store.{Store}
+use Rattle.ix_store.specs.declared.store.Store.{Store}
 use Rattle.ix_labels.specs.Labels.{AreLabelsOf}
 use Rattle.ix_labels.specs.Visits.{visits_by}
 use Rattle.ix_labels.proofs.Filling.{are_labels, all_visits, kept_filled}

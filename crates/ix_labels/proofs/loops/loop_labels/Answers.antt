@@ -1,7 +1,7 @@
 use Rattle.std.proofs.Common.{length, ap, sym, ◌∙◌}
 use Rattle.std.proofs.lemmas.List.{length-map}
 use Rattle.std.proofs.lemmas.Result.{IfOk-weaker}
-use Rattle.ix_labels.specs.StoredFacts.{stored}
+use Rattle.ix_store.specs.StoredFacts.{stored}
 use Rattle.ix_labels.proofs.Bounded.{visits_within}
 use Rattle.ix_labels.proofs.HeadStores.{found_labels}
 use Rattle.ix_labels.proofs.loops.loop_labels.Goals as goal

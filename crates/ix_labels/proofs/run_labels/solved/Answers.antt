@@ -1,9 +1,9 @@
 use Rattle.std.proofs.Common.{◌+◌, ◌≤◌, length, map, arith, sym, subst, ◌∙◌}
 use Rattle.std.proofs.lemmas.List.{length-map}
 use Rattle.ix_facts.specs.Stores.{IsBelow}
-use Rattle.ix_sign.specs.StoredFacts.{stored}
+use Rattle.ix_store.specs.StoredFacts.{stored}
 use Rattle.ix_solve.specs.Solutions.{IsSolution, IsLeast}
-use Rattle.ix_sign.specs.StoreOrder.{nowhere, store_rank, top_rank}
+use Rattle.ix_store.specs.StoreOrder.{nowhere, store_rank, top_rank}
 use Rattle.ix_solve.specs.Readers.{readings}
 use Rattle.ix_labels.specs.Problem.{readers_of, Asks}
 use Rattle.ix_labels.proofs.run_labels.solved.Goals as goal

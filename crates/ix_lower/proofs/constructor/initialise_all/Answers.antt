@@ -1,7 +1,7 @@
 use Rattle.std.proofs.Common.{Err, rules}
 use Rattle.ix_plain.specs.Program.{fields_initialised}
-use Rattle.ix_lower_statements.specs.Shown.{shown_site}
-use Rattle.ix_lower_statements.proofs.HandedOn.{same_error, not_made}
+use Rattle.ix_lower_expressions.specs.Shown.{shown_site}
+use Rattle.ix_lower_expressions.proofs.HandedOn.{same_error, not_made}
 use Rattle.ix_lower.proofs.OneByOne.{field_initialised, fields_done}
 use Rattle.ix_lower.proofs.constructor.initialise_all.Goals as goal
 

@@ -1,6 +1,6 @@
 use Rattle.std.proofs.Common.{◌≡◌, drop}
 use Rattle.ix_plain.specs.Program as spec
-use Rattle.ix_lower_statements.specs.Shown.{shown_site}
+use Rattle.ix_lower_expressions.specs.Shown.{shown_site}
 use Rattle.ix_lower.proofs.constructor.initialise_all.Given as goal
 
 abbrev pub invariant-loop-member : goal.invariant-loop-member

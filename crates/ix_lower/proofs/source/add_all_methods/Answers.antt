@@ -1,7 +1,7 @@
 use Rattle.std.proofs.Common.{◌+◌, ◌∙◌, Ok, Err, ap, drop, sym}
 use Rattle.ix_plain.specs.Program.{methods_from}
 use Rattle.ix_lower.specs.Homes.{shown_tables, shown_home}
-use Rattle.ix_lower_statements.proofs.HandedOn.{same_error, not_made}
+use Rattle.ix_lower_expressions.proofs.HandedOn.{same_error, not_made}
 use Rattle.ix_lower.proofs.OneByOne.{class_written}
 use Rattle.ix_lower.proofs.source.add_all_methods.Goals as goal
 

@@ -1,7 +1,7 @@
 use Rattle.std.proofs.Common.{Err, rules}
 use Rattle.ix_plain.specs.Program.{methods_in}
 use Rattle.ix_lower.specs.Homes.{shown_tables, shown_home}
-use Rattle.ix_lower_statements.proofs.HandedOn.{same_error, not_made}
+use Rattle.ix_lower_expressions.proofs.HandedOn.{same_error, not_made}
 use Rattle.ix_lower.proofs.OneByOne.{method_placed, methods_done}
 use Rattle.ix_lower.proofs.source.add_methods.Goals as goal
 

@@ -1,7 +1,7 @@
 use Rattle.std.proofs.Common.{sym, ap, refl, ◌≡◌, ◌∙◌, ℕ, List, Result, Ok, Err, IfOk}
 use Rattle.ix_core.specs.declared.program.Program.{Program}
 use Rattle.ix_symbols.specs.Numbered.{shown}
-use Rattle.ix_meaning.specs.ClassDecl.{ClassDecl}
+use Rattle.ix_tree.specs.declared.decl.ClassDecl.{ClassDecl}
 use Rattle.ix_meaning.specs.Resolved.{Names}
 use Rattle.ix_meaning.specs.Members.{World, world}
 use Rattle.ix_class_members.specs.World.{shown as shown_world}

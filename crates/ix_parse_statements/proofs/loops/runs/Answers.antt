@@ -3,7 +3,7 @@ use Rattle.ix_grammar_rules.specs.ExprRules.{statement_expr as the_expr}
 use Rattle.ix_grammar_rules.specs.ListRules.{next_of, more_of}
 use Rattle.ix_grammar.specs.StmtGrammar as nodes
 use Rattle.ix_grammar_rules.proofs.Runs.{loop_on}
-use Rattle.ix_parse_expressions.proofs.Turns.{one_more}
+use Rattle.ix_parse_base.proofs.Turns.{one_more}
 use Rattle.ix_parse_statements.proofs.loops.runs.Goals as goal
 
 pub reading-preserved : goal.reading-preserved

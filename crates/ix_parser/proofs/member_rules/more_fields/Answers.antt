@@ -4,8 +4,8 @@ use Rattle.ix_grammar_rules.specs.DeclRules as spec
 use Rattle.ix_grammar_rules.specs.ExprRules.{init}
 use Rattle.ix_grammar_rules.specs.ListRules.{next_of, more_of}
 use Rattle.ix_grammar_rules.proofs.Runs.{loop_on}
-use Rattle.ix_parse_statements.proofs.Takes.{taken_here}
-use Rattle.ix_parse_statements.proofs.Turns.{one_more}
+use Rattle.ix_parse_base.proofs.Takes.{taken_here}
+use Rattle.ix_parse_base.proofs.Turns.{one_more}
 use Rattle.ix_parser.proofs.member_rules.more_fields.Goals as goal
 
 pub reading-preserved : goal.reading-preserved

@@ -3,7 +3,7 @@ use Rattle.ix_grammar.specs.DeclGrammar.{with_param}
 use Rattle.ix_grammar_rules.specs.DeclRules as spec
 use Rattle.ix_grammar_rules.specs.ListRules.{next_of, more_of}
 use Rattle.ix_grammar_rules.proofs.Runs.{loop_on}
-use Rattle.ix_parse_statements.proofs.Turns.{one_more}
+use Rattle.ix_parse_base.proofs.Turns.{one_more}
 use Rattle.ix_parser.proofs.parameters.more_params.Goals as goal
 
 pub reading-preserved : goal.reading-preserved

@@ -1,6 +1,6 @@
 use Rattle.std.proofs.Common.{drop}
-use Rattle.ix_store.specs.Stores.{Stored, AreTold}
-use Rattle.ix_store.specs.OverGroups.{outcomes_of}
+use Rattle.ix_facts.specs.Stores.{Stored, AreTold}
+use Rattle.ix_test_facts.specs.OverGroups.{outcomes_of}
 use Rattle.ix_store.specs.StoredFacts.{stored}
 use Rattle.ix_refine.proofs.branches.told_all.Given as goal
 

@@ -2,7 +2,7 @@ use Rattle.std.specs.Prelude.{pos}
 use Rattle.std.proofs.Common.{◌++◌, refl, ap, ◌∙◌}
 use Rattle.ix_text.proofs.Walked.{next_or, none_left}
 use Rattle.ix_core.specs.declared.claim.Claim.TheVariants.{Range}
-use Rattle.ix_rules_hold.specs.Assume.{claim_facts}
+use Rattle.ix_facts.specs.Assume.{claim_facts}
 use Rattle.ix_signatures.specs.Naming.{path_by}
 use Rattle.ix_signatures.specs.Signs.{claims_facts}
 use Rattle.ix_signatures.proofs.SmallLeft.{claims_left}

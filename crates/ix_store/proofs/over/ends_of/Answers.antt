@@ -1,5 +1,5 @@
 use Rattle.std.proofs.Common.{◌≡◌, ◌≤◌, ◌++◌, sym, subst, length, take}
-use Rattle.ix_fact_list.specs.Ends.{ends_in}
+use Rattle.ix_bounds.specs.Ends.{ends_in}
 use Rattle.ix_fact_table.specs.FactTables.{facts_of}
 use Rattle.ix_store.specs.Orders.{ordered_by}
 use Rattle.ix_store.proofs.OverInts.{front_ends, front_within}

@@ -3,8 +3,8 @@ use Rattle.std.proofs.Common.{sym, subst, ap, ◌∙◌}
 use Rattle.std.proofs.lemmas.Result.{IfOk-weaker}
 use Rattle.ix_facts.specs.Exact.{named_ints, named_arrays}
 use Rattle.ix_facts.specs.Named.{IsAmongPaths}
-use Rattle.ix_fact_list.specs.ByPath.{put_all}
-use Rattle.ix_fact_list.specs.PutLaws.{IsRising}
+use Rattle.ix_fact_paths.specs.ByPath.{put_all}
+use Rattle.ix_fact_paths.specs.PutLaws.{IsRising}
 use Rattle.ix_fact_table.specs.FactTables.{facts_of}
 use Rattle.ix_store.proofs.OverInts.{differences_name_none}
 use Rattle.ix_store.proofs.over.ints_and_arrays_of.Goals as goal

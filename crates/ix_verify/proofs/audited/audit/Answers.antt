@@ -2,7 +2,7 @@ use Rattle.std.proofs.Common.{rules, ◌≡◌, ◌<◌, ℕ, None, Some, length
 use Rattle.std.proofs.lemmas.Result.{IfOk-weaker}
 use Rattle.std.specs.Prelude.{IfNone}
 use Rattle.ix_core.specs.declared.error.Error.{Error}
-use Rattle.ix_errors.specs.StoredFacts.{stored}
+use Rattle.ix_store.specs.StoredFacts.{stored}
 use Rattle.ix_soundness.specs.Sound.{HasNoErrors}
 use Rattle.ix_verify.specs.AtLabels.{IsErrorAt, IsFirstFailing}
 use Rattle.ix_verify.specs.Audited.{labels_of}

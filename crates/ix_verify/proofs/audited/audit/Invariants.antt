@@ -1,5 +1,5 @@
 use Rattle.std.proofs.Common.{map}
-use Rattle.ix_errors.specs.StoredFacts.{stored}
+use Rattle.ix_store.specs.StoredFacts.{stored}
 use Rattle.ix_verify.proofs.Programs.{IsSoFar}
 use Rattle.ix_verify.proofs.audited.audit.Given as goal
 

@@ -2,9 +2,9 @@ use Rattle.std.proofs.Common.{◌<◌, length, map, ap, sym, subst, ◌∙◌, �
 use Rattle.std.specs.Option.{ForSome}
 use Rattle.ix_core.specs.declared.program.Method.{Method}
 use Rattle.ix_core.specs.Code.{block_code}
-use Rattle.ix_errors.specs.StoredFacts.{stored}
-use Rattle.ix_errors.specs.RuleErrors.{OverridesBy}
-use Rattle.ix_errors.specs.Naming.{HasSmallNames}
+use Rattle.ix_store.specs.StoredFacts.{stored}
+use Rattle.ix_sign.specs.RuleErrors.{OverridesBy}
+use Rattle.ix_signatures.specs.Naming.{HasSmallNames}
 use Rattle.ix_verify.specs.Walking.{AddsTo, SomewhereIn, Finds, IsLeastIn}
 use Rattle.ix_verify.proofs.Methods.{method_is, first_failing, all_errors, none_sound}
 use Rattle.ix_verify.proofs.method.audit_method.Goals as goal

@@ -1,9 +1,9 @@
 use Rattle.std.proofs.Common.{◌<◌, ◌⊎◌, length, sym, subst}
 use Rattle.std.proofs.lemmas.Result.{on_ok_weaker}
 use Rattle.ix_core.specs.declared.program.Method.{Method}
-use Rattle.ix_errors.specs.RuleErrors.{OverridesBy}
-use Rattle.ix_errors.specs.Naming.{HasSmallNames}
-use Rattle.ix_errors.specs.SignErrors.{OverrideParameter, OverrideResult, OverrideEffect}
+use Rattle.ix_sign.specs.RuleErrors.{OverridesBy}
+use Rattle.ix_signatures.specs.Naming.{HasSmallNames}
+use Rattle.ix_signatures.specs.SignErrors.{OverrideParameter, OverrideResult, OverrideEffect}
 use Rattle.ix_verify.specs.Walking.{AddsTo}
 use Rattle.ix_verify.proofs.Lists.{exactly_to}
 use Rattle.ix_verify.proofs.Methods.{method_is}

@@ -3,7 +3,7 @@ use Rattle.std.proofs.lemmas.List.{drop_all}
 use Rattle.std.proofs.lemmas.Result.{on_ok_weaker}
 use Rattle.ix_core.specs.Code.{Do, Break, Continue, Return, Throw, If, Loop, block_code, cond_code, item_code, items_code}
 use Rattle.ix_core.proofs.Translated.{cond_code-Compare, cond_code-Truth, cond_code-Both, cond_code-Either, cond_code-Opposite, item_code-If, item_code-Loop}
-use Rattle.ix_errors.specs.RuleErrors.{TestEscapes}
+use Rattle.ix_sign.specs.RuleErrors.{TestEscapes}
 use Rattle.ix_verify.specs.Walking.{SomewhereIn, SomewhereOf}
 use Rattle.ix_verify.proofs.Lists.{exactly_to, to_both, to_none}
 use Rattle.ix_verify.proofs.TextItems.{item_as, ask_as, do_adds, break_adds, continue_adds, return_adds, throw_adds, if_adds, loop_adds, some_goes, some_ends}

@@ -1,6 +1,6 @@
 use Rattle.std.proofs.lemmas.Result.{on_ok_weaker}
-use Rattle.ix_errors.specs.RuleErrors.{AssignsNamed, OpEscapes}
-use Rattle.ix_errors.specs.SignErrors.{EffectWrite}
+use Rattle.ix_sign.specs.RuleErrors.{AssignsNamed, OpEscapes}
+use Rattle.ix_signatures.specs.SignErrors.{EffectWrite}
 use Rattle.ix_errors.proofs.Refused.{adds_both}
 use Rattle.ix_verify.proofs.Lists.{exactly_to}
 use Rattle.ix_verify.proofs.texts.push_of_op.Goals as goal

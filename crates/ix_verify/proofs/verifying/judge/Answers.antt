@@ -1,5 +1,5 @@
 use Rattle.std.proofs.Common.{map}
-use Rattle.ix_cert.specs.StoredFacts.{stored}
+use Rattle.ix_store.specs.StoredFacts.{stored}
 use Rattle.ix_verify.proofs.Judged.{clean, loop, rule}
 use Rattle.ix_verify.proofs.verifying.judge.Goals as goal
 

@@ -1,6 +1,6 @@
 use Rattle.std.proofs.Common.{rules, map}
 use Rattle.std.proofs.lemmas.Result.{IfOk-weaker, IfErr-weaker}
-use Rattle.ix_cert.specs.StoredFacts.{stored}
+use Rattle.ix_store.specs.StoredFacts.{stored}
 use Rattle.ix_cert.specs.Labellings.{IsLabelling}
 use Rattle.ix_verify.specs.declared.answer.CertError.TheVariants.{Form}
 use Rattle.ix_verify.proofs.Counted.{given}

@@ -1,6 +1,6 @@
 use Rattle.std.proofs.Common.{◌≡◌, drop}
 use Rattle.ix_class_members.specs.World as spec
-use Rattle.ix_symbols.specs.Members as members
+use Rattle.ix_meaning.specs.Members as members
 use Rattle.ix_class_members.proofs.world.World.nearest_field.Given as goal
 
 abbrev pub invariant-loop-class : goal.invariant-loop-class

@@ -1,5 +1,5 @@
 use Rattle.std.proofs.Common.{slice_index_or, pos, subst}
-use Rattle.ix_core.specs.Ints.{least_int, greatest_int}
+use Rattle.ix_num.specs.Ints.{least_int, greatest_int}
 use Rattle.ix_core.specs.declared.fact.Path.TheVariants.{Slot}
 use Rattle.ix_core.specs.declared.fact.Fact.TheVariants.{Rng}
 use Rattle.ix_facts.specs.Bounds.{range_low, range_high, lower_by, lower_bound, limit_by, upper_limit}

@@ -1,5 +1,5 @@
 use Rattle.std.proofs.Common.{drop}
-use Rattle.ix_core.specs.Ints.{least_int, greatest_int}
+use Rattle.ix_num.specs.Ints.{least_int, greatest_int}
 use Rattle.ix_facts.specs.Bounds.{lower_by, lower_bound, limit_by, upper_limit}
 use Rattle.ix_fact_list.specs.NearNumbers.{AreLimits}
 use Rattle.ix_fact_list.proofs.NearRaised.{Rising, Falling}

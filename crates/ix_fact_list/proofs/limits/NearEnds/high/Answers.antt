@@ -1,6 +1,6 @@
 use Rattle.std.proofs.Common.{rules, ap, ◌≡◌, w64, to_z, of_z, sym, subst, ◌∙◌}
 use Rattle.std.proofs.lemmas.Int.{to_z-of_z}
-use Rattle.ix_core.specs.Ints.{greatest_int}
+use Rattle.ix_num.specs.Ints.{greatest_int}
 use Rattle.ix_facts.specs.Bounds as spec
 use Rattle.ix_facts.specs.Small.{IsEnd}
 use Rattle.ix_fact_list.specs.NearNumbers.{number_at}

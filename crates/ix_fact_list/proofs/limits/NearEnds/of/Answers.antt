@@ -1,5 +1,5 @@
 use Rattle.std.proofs.Common.{pos, refl}
-use Rattle.ix_core.specs.Ints.{least_int, greatest_int}
+use Rattle.ix_num.specs.Ints.{least_int, greatest_int}
 use Rattle.ix_facts.specs.Bounds.{range_low_by, range_high_by, length_low_by, length_high_by, range_low, range_high, length_low, length_high}
 use Rattle.ix_fact_list.proofs.NearRaised.{rising_at_first, falling_at_first, rises, falls, risen, fallen}
 use Rattle.ix_fact_list.proofs.NearCopied.{ready_none}

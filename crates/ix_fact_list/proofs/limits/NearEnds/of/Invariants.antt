@@ -1,5 +1,5 @@
 use Rattle.std.proofs.Common.{drop, pos}
-use Rattle.ix_core.specs.Ints.{least_int, greatest_int}
+use Rattle.ix_num.specs.Ints.{least_int, greatest_int}
 use Rattle.ix_facts.specs.Bounds.{range_low_by, range_high_by, length_low_by, length_high_by, range_low, range_high, length_low, length_high}
 use Rattle.ix_fact_list.proofs.NearRaised.{Rising, Falling}
 use Rattle.ix_fact_list.proofs.limits.NearEnds.of.Given as goal

@@ -1,7 +1,7 @@
 use Rattle.std.proofs.Common.{rules, ◌≡◌, pos, None, sym, subst, refl, w32, w64, to_z, of_z}
 use Rattle.std.proofs.lemmas.Int.{to_z-of_z}
 use Rattle.std.proofs.lemmas.Result.{on_ok_weaker}
-use Rattle.ix_core.specs.Ints.{least_int, greatest_int}
+use Rattle.ix_num.specs.Ints.{least_int, greatest_int}
 use Rattle.ix_facts.specs.Bounds.{range_low_by, range_high_by, length_low_by, length_high_by}
 use Rattle.ix_fact_list.proofs.NearRaised.{raised_as, lowered_as, not_raised, not_lowered, range_low_told, range_high_told, class_told, length_low_told, length_high_told}
 use Rattle.ix_fact_list.proofs.limits.NearEnds.put.Goals as goal

@@ -2,7 +2,7 @@ use Rattle.std.proofs.Common.{◌≡◌, true, false, vec_len, length, map, arit
 use Rattle.std.proofs.lemmas.Bool.{false≢true}
 use Rattle.std.proofs.lemmas.Result.{IfOk-weaker}
 use Rattle.ix_facts.specs.Stores.{IsBelow}
-use Rattle.ix_sign.specs.StoredFacts.{stored}
+use Rattle.ix_store.specs.StoredFacts.{stored}
 use Rattle.ix_solve.specs.Solutions.{IsLeastOf}
 use Rattle.ix_labels.specs.Problem.{rules_of, kinds_at, edges_at, kept_in}
 use Rattle.ix_labels.specs.Runs.{goes_on, node_before}

@@ -1,7 +1,7 @@
 use Rattle.std.proofs.Common.{◌<◌, length, map, arith, sym, ap, subst, ◌∙◌}
 use Rattle.std.proofs.lemmas.Result.{IfOk-weaker}
 use Rattle.ix_facts.specs.Stores.{IsBelow}
-use Rattle.ix_sign.specs.StoredFacts.{stored}
+use Rattle.ix_store.specs.StoredFacts.{stored}
 use Rattle.ix_solve.specs.Solutions.{IsLeastOf}
 use Rattle.ix_labels.specs.Problem.{kept_in}
 use Rattle.ix_labels.proofs.KeptNodes.{kept_read}

@@ -4,9 +4,9 @@ use Rattle.ix_core.specs.Code.{block_code}
 use Rattle.ix_graph.specs.Graph.{Compares, Tells}
 use Rattle.ix_graph.specs.Brought.{pass_of}
 use Rattle.ix_graph.specs.Built.{kind_of}
-use Rattle.ix_sign.specs.Signs.{Adds, IsLeastOf, told_facts}
-use Rattle.ix_sign.specs.Store.{Store}
-use Rattle.ix_sign.specs.StoredFacts.{stored}
+use Rattle.ix_signatures.specs.Signs.{Adds, IsLeastOf, told_facts}
+use Rattle.ix_store.specs.declared.store.Store.{Store}
+use Rattle.ix_store.specs.StoredFacts.{stored}
 use Rattle.ix_labels.specs.Problem.{kinds_at}
 use Rattle.ix_labels.proofs.Visited.{kind_found, IsCarried, tested_least, tells_least, same_least}
 use Rattle.ix_labels.proofs.problem.Problem.brought.Goals.{in_default-via-in-Compare+in_default, in_default-via-in-Truth+in_default, in_default-via-in_default}

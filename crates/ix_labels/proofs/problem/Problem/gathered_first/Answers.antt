@@ -5,8 +5,8 @@ use Rattle.ix_labels.specs.Problem.{rules_of, kinds_at}
 use Rattle.ix_labels.specs.RunAsks.{EachBrings}
 use Rattle.ix_labels.proofs.Visited.{First, edges_are, from_within, join_said, one_more_edge}
 use Rattle.ix_facts.specs.Stores.{IsBelow}
-use Rattle.ix_sign.specs.Store.{Store}
-use Rattle.ix_sign.specs.StoredFacts.{stored}
+use Rattle.ix_store.specs.declared.store.Store.{Store}
+use Rattle.ix_store.specs.StoredFacts.{stored}
 use Rattle.ix_labels.proofs.problem.Problem.gathered_first.Goals as goal
 
 pub loop-from-init : goal.loop-from-init

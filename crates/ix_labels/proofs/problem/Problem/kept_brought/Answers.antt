@@ -1,7 +1,7 @@
 use Rattle.std.proofs.Common.{◌<◌, length, map, arith, subst}
 use Rattle.std.proofs.lemmas.Result.{IfOk-weaker}
 use Rattle.ix_facts.specs.Stores.{IsBelow}
-use Rattle.ix_sign.specs.StoredFacts.{stored}
+use Rattle.ix_store.specs.StoredFacts.{stored}
 use Rattle.ix_solve.specs.Solutions.{IsLeastOf}
 use Rattle.ix_labels.proofs.Visited.{Kept, kept_least, said_there, edge_brings}
 use Rattle.ix_labels.proofs.problem.Problem.kept_brought.Goals as goal

@@ -1,6 +1,6 @@
 use Rattle.std.proofs.Common.{map}
 use Rattle.std.proofs.lemmas.Result.{IfOk-weaker}
-use Rattle.ix_sign.specs.StoredFacts.{stored}
+use Rattle.ix_store.specs.StoredFacts.{stored}
 use Rattle.ix_labels.proofs.Visited.{To, edge_brings}
 use Rattle.ix_labels.proofs.problem.Problem.run_brought.Goals as goal
 

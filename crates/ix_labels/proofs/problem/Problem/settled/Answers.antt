@@ -2,7 +2,7 @@ use Rattle.std.proofs.Common.{ap, sym, subst, ◌∙◌}
 use Rattle.std.proofs.lemmas.Result.{IfOk-weaker}
 use Rattle.ix_graph.specs.Brought.{IsSettled}
 use Rattle.ix_graph.specs.Built.{kind_of}
-use Rattle.ix_sign.specs.StoredFacts.{stored}
+use Rattle.ix_store.specs.StoredFacts.{stored}
 use Rattle.ix_labels.specs.Problem.{rules_of}
 use Rattle.ix_labels.proofs.Visited.{kind_found, entered, headed, as_joined}
 use Rattle.ix_labels.proofs.problem.Problem.settled.Goals as goal

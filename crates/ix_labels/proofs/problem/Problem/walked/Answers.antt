@@ -1,6 +1,6 @@
 use Rattle.std.proofs.Common.{◌≡◌, ◌<◌, ◌+◌, suc, length, map, arith, sym, ap, subst, ◌∙◌}
 use Rattle.ix_facts.specs.Stores.{IsBelow}
-use Rattle.ix_sign.specs.StoredFacts.{stored}
+use Rattle.ix_store.specs.StoredFacts.{stored}
 use Rattle.ix_solve.specs.Solutions.{IsLeastOf}
 use Rattle.ix_labels.specs.Problem.{kept_in}
 use Rattle.ix_labels.specs.Runs.{IsStart}

@@ -1,7 +1,7 @@
 use Rattle.std.proofs.Common.{map, ◌≤◌}
 use Rattle.ix_solve.specs.Solutions.{IsLeastOf}
 use Rattle.ix_facts.specs.Stores.{IsBelow}
-use Rattle.ix_sign.specs.StoredFacts.{stored}
+use Rattle.ix_store.specs.StoredFacts.{stored}
 use Rattle.ix_labels.proofs.Visited.{To}
 use Rattle.ix_labels.proofs.problem.Problem.walked.Given as goal
 

@@ -1,6 +1,6 @@
 use Rattle.std.proofs.Common.{◌<◌, length, map, arith, ap, ◌∙◌}
 use Rattle.std.proofs.lemmas.Result.{IfOk-weaker}
-use Rattle.ix_sign.specs.StoredFacts.{stored}
+use Rattle.ix_store.specs.StoredFacts.{stored}
 use Rattle.ix_labels.specs.Problem.{kept_in}
 use Rattle.ix_labels.proofs.KeptNodes.{kept_read}
 use Rattle.ix_labels.proofs.Visited.{label_asked, passed_asked}

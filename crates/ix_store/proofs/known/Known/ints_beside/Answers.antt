@@ -1,6 +1,6 @@
 use Rattle.std.proofs.Common.{ap, sym, subst, ◌∙◌}
 use Rattle.std.proofs.lemmas.Result.{IfOk-weaker}
-use Rattle.ix_fact_list.specs.PutLaws.{IsRising}
+use Rattle.ix_fact_paths.specs.PutLaws.{IsRising}
 use Rattle.ix_fact_paths.specs.ChangedPaths.{is_changed, paths_beside}
 use Rattle.ix_store.proofs.OverInts.{known_rising, beside_rises}
 use Rattle.ix_store.proofs.known.Known.ints_beside.Goals as goal

@@ -1,6 +1,6 @@
 use Rattle.std.proofs.Common.{sym, subst, ◌∙◌}
 use Rattle.std.proofs.lemmas.Result.{IfOk-weaker}
-use Rattle.ix_fact_list.specs.PutLaws.{IsRising}
+use Rattle.ix_fact_paths.specs.PutLaws.{IsRising}
 use Rattle.ix_store.proofs.OverInts.{known_rising}
 use Rattle.ix_store.proofs.known.Known.ints_told.Goals as goal
 

@@ -1,8 +1,8 @@
 use Rattle.std.proofs.Common.{ap, sym, subst, ◌∙◌}
 use Rattle.std.proofs.lemmas.Result.{IfOk-weaker}
 use Rattle.ix_facts.specs.Exact.{named_ints}
-use Rattle.ix_fact_list.specs.ByPath.{put_all}
-use Rattle.ix_fact_list.specs.PutLaws.{IsRising}
+use Rattle.ix_fact_paths.specs.ByPath.{put_all}
+use Rattle.ix_fact_paths.specs.PutLaws.{IsRising}
 use Rattle.ix_store.proofs.OverInts.{known_rising, grown_rising}
 use Rattle.ix_store.proofs.known.Known.ints_with.Goals as goal
 

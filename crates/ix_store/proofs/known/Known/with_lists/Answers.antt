@@ -3,9 +3,9 @@ use Rattle.std.proofs.Common.{rules, ◌≡◌, ◌≤◌, ap, sym, subst, ◌�
 use Rattle.ix_facts.specs.Closure.{Closed}
 use Rattle.ix_facts.specs.Exact.{named_ints, named_arrays}
 use Rattle.ix_facts.specs.Facts.{in_orders}
-use Rattle.ix_fact_list.specs.Ends.{ends_in}
-use Rattle.ix_fact_list.specs.Links.{links_in}
-use Rattle.ix_fact_list.specs.ByPath.{put_all}
+use Rattle.ix_bounds.specs.Ends.{ends_in}
+use Rattle.ix_bounds.specs.Links.{links_in}
+use Rattle.ix_fact_paths.specs.ByPath.{put_all}
 use Rattle.ix_fact_table.specs.FactTables.{facts_of}
 use Rattle.ix_fact_table.specs.TableLaws.{all_may}
 use Rattle.ix_store.specs.EmptyRanges.{some_empty}

@@ -1,5 +1,5 @@
 use Rattle.std.proofs.Common.{◌∙◌}
-use Rattle.ix_fact_list.specs.HasOrders.{length_in_orders}
+use Rattle.ix_bounds.specs.HasOrders.{length_in_orders}
 use Rattle.ix_store.specs.StoredFacts.{facts_in}
 use Rattle.ix_store.proofs.known_bounds.KnownKnow.is_len.Goals as goal
 

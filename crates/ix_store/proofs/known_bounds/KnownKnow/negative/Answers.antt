@@ -1,5 +1,5 @@
 use Rattle.std.proofs.Common.{◌∙◌}
-use Rattle.ix_fact_list.specs.HasOrders.{negative_in_orders}
+use Rattle.ix_bounds.specs.HasOrders.{negative_in_orders}
 use Rattle.ix_store.specs.StoredFacts.{facts_in}
 use Rattle.ix_store.proofs.known_bounds.KnownKnow.negative.Goals as goal
 

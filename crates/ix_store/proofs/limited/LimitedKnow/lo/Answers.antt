@@ -1,10 +1,10 @@
 use Rattle.std.proofs.Common.{rules, ◌≡◌, w64, to_z, of_z, ap, sym, subst, ◌∙◌}
 use Rattle.std.proofs.lemmas.Int.{to_z-of_z}
-use Rattle.ix_core.specs.Ints.{least_int}
+use Rattle.ix_num.specs.Ints.{least_int}
 use Rattle.ix_facts.specs.Bounds.{lower_bound}
 use Rattle.ix_facts.specs.Facts.{in_orders}
 use Rattle.ix_facts.specs.Small.{IsBound}
-use Rattle.ix_fact_list.specs.ByPath.{near_place}
+use Rattle.ix_fact_paths.specs.ByPath.{near_place}
 use Rattle.ix_fact_list.specs.NearNumbers.{number_at}
 use Rattle.ix_fact_list.proofs.NearRaised.{bound_of_limit}
 use Rattle.ix_store.specs.StoredFacts.{facts_in}

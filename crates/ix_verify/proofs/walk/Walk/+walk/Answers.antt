@@ -8,7 +8,7 @@ use Rattle.ix_core.proofs.Translated.{cond_code-Compare, cond_code-Truth, cond_c
 use Rattle.ix_facts.specs.Stores.{Unreachable}
 use Rattle.ix_flow.specs.Flow.{Returning}
 use Rattle.ix_flow.specs.Walk.{IsLeast}
-use Rattle.ix_errors.specs.StoredFacts.{stored}
+use Rattle.ix_store.specs.StoredFacts.{stored}
 use Rattle.ix_verify.specs.Walking.{notes, rules, AddsAt}
 use Rattle.ix_verify.proofs.Items.{item_as, do_walks, if_walks, break_walks, continue_walks, return_walks, throw_walks, while_walks, do_while_walks, behind_as, asks_on, some_begins, some_goes, some_ends, ask_as, compare_splits, truth_splits, both_split, either_splits, opposite_splits}
 use Rattle.ix_verify.proofs.Results.{if_ok_both, if_ok_three}

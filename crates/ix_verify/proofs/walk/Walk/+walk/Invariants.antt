@@ -1,7 +1,7 @@
 use Rattle.std.specs.Prelude.{option_map}
 use Rattle.std.proofs.Common.{drop}
 use Rattle.ix_core.specs.Code.{items_code}
-use Rattle.ix_errors.specs.StoredFacts.{stored}
+use Rattle.ix_store.specs.StoredFacts.{stored}
 use Rattle.ix_verify.specs.Walking.{notes}
 use Rattle.ix_verify.proofs.Items.{WalksSome}
 use Rattle.ix_verify.proofs.walk.Walk.+walk.Given as goal

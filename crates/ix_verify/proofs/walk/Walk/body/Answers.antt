@@ -1,6 +1,6 @@
 use Rattle.std.proofs.Common.{None, refl, ap}
 use Rattle.ix_core.specs.Code.{block_code}
-use Rattle.ix_errors.specs.StoredFacts.{stored}
+use Rattle.ix_store.specs.StoredFacts.{stored}
 use Rattle.ix_verify.specs.Walking.{notes}
 use Rattle.ix_verify.proofs.Bodies.{from_nothing, three_joined}
 use Rattle.ix_verify.proofs.Stores.{entry_least}

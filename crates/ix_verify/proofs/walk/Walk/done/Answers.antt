@@ -1,5 +1,5 @@
 use Rattle.std.proofs.lemmas.Result.{IfOk-weaker}
-use Rattle.ix_errors.specs.StoredFacts.{stored}
+use Rattle.ix_store.specs.StoredFacts.{stored}
 use Rattle.ix_verify.proofs.Lists.{exactly_to}
 use Rattle.ix_verify.proofs.Stores.{after_least}
 use Rattle.ix_verify.proofs.walk.Walk.done.Goals as goal

@@ -1,6 +1,6 @@
 use Rattle.std.proofs.Common.{◌↔◌, IsTrue, subst}
 use Rattle.ix_facts.specs.Stores.{Stored}
-use Rattle.ix_errors.specs.StoredFacts.{stored}
+use Rattle.ix_store.specs.StoredFacts.{stored}
 use Rattle.ix_verify.specs.Walking.{rules}
 use Rattle.ix_verify.proofs.Labels.{holds_is}
 use Rattle.ix_verify.proofs.walk.Walk.holds.Goals as goal

@@ -1,5 +1,5 @@
 use Rattle.std.proofs.lemmas.Result.{on_ok_weaker}
-use Rattle.ix_errors.specs.StoredFacts.{stored}
+use Rattle.ix_store.specs.StoredFacts.{stored}
 use Rattle.ix_verify.proofs.Labels.{judged}
 use Rattle.ix_verify.proofs.walk.Walk.judge.Goals as goal
 

@@ -1,6 +1,6 @@
 use Rattle.std.specs.Prelude.{option_map}
 use Rattle.std.proofs.Common.{true, false}
-use Rattle.ix_errors.specs.StoredFacts.{stored}
+use Rattle.ix_store.specs.StoredFacts.{stored}
 use Rattle.ix_verify.proofs.Stores.{told_least_of}
 use Rattle.ix_verify.proofs.walk.Walk.told.Goals as goal
 
