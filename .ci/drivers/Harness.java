@@ -154,14 +154,14 @@ public class Harness {
         Path runs = Path.of(words[0]);
         ClassLoader loader = new Watching(runs.toAbsolutePath().getParent());
         for (String line : Files.readAllLines(runs)) {
-            String[] parts = line.split(" ");
+            String[] parts = line.split(" "), entry = parts[0].split("\\.");
             ByteArrayOutputStream printed = new ByteArrayOutputStream();
             System.setOut(new PrintStream(printed, true));
             String[] ending = { "other: no end in 20 seconds" };
             Thread thread = new Thread(() -> {
                 try {
-                    for (Method method : Class.forName(parts[0], true, loader).getDeclaredMethods()) {
-                        if (!method.getName().equals("run")) continue;
+                    for (Method method : Class.forName(entry[0], true, loader).getDeclaredMethods()) {
+                        if (!method.getName().equals(entry[1])) continue;
                         method.setAccessible(true);
                         Object[] inputs = new Object[parts.length - 1];
                         for (int i = 0; i < inputs.length; i++) inputs[i] = input(method.getParameterTypes()[i], parts[i + 1]);
