@@ -11,20 +11,19 @@ public class Heap {
         if (size == items.length) {
             grow();
         }
-        if (size == items.length) {
-            throw new IllegalStateException("full");
-        }
         items[size] = item;
         moveUp(size);
         size++;
     }
 
+    /** Makes room for one more item at least. */
+    @EnsuresLTLengthOf(value = "size", targetValue = "items")
     private void grow() {
-        int length = items.length;
+        int length = size;
         if (length > 1000000000) {
             throw new IllegalStateException("full");
         }
-        int[] more = new int[2 * length];
+        int[] more = new int[length + length + 1];
         for (int i = 0; i < length; i++) {
             more[i] = items[i];
         }

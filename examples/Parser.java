@@ -10,31 +10,30 @@ public class Parser {
         this.at = 0;
     }
 
-    /** The code at this place, or -1 at the end. */
-    private int peek() {
-        if (at < text.length) {
-            return text[at];
-        }
-        return -1;
+    @EnsuresLTLengthOfIf(expression = "at", result = true, targetValue = "text")
+    private boolean hasMore() {
+        return at < text.length;
     }
 
-    private void advance() {
-        if (at < text.length) {
-            at++;
+    private int next() {
+        if (!hasMore()) {
+            throw new IllegalStateException("end");
         }
+        int code = text[at];
+        at++;
+        return code;
     }
 
     private void skipBlanks() {
-        while (peek() == 32) {
-            advance();
+        while (hasMore() && text[at] == 32) {
+            at++;
         }
     }
 
     private int number() {
         int value = 0;
-        while (peek() >= 48 && peek() <= 57) {
-            value = value * 10 + (peek() - 48);
-            advance();
+        while (hasMore() && text[at] >= 48 && text[at] <= 57) {
+            value = value * 10 + (next() - 48);
         }
         return value;
     }
@@ -43,8 +42,8 @@ public class Parser {
         skipBlanks();
         int sum = number();
         skipBlanks();
-        while (peek() == 43) {
-            advance();
+        while (hasMore() && text[at] == 43) {
+            next();
             skipBlanks();
             sum += number();
             skipBlanks();

@@ -1,0 +1,8 @@
+class A {
+    static int f(int[] a, @IndexFor("#1") int l, @IndexFor("#1") int h) {
+        if (l <= h) {
+            return a[(l + h) >>> 1];
+        }
+        return 0;
+    }
+}

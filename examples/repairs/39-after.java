@@ -1,0 +1,16 @@
+class A {
+    final int[] k;
+    final int @SameLen("k") [] v;
+
+    A(@NonNegative int n) {
+        k = new int[n];
+        v = new int[n];
+    }
+
+    int f(@NonNegative int i) {
+        if (i < k.length) {
+            return v[i];
+        }
+        return 0;
+    }
+}

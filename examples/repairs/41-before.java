@@ -1,0 +1,11 @@
+class A {
+    int n;
+
+    A() {
+        reset();
+    }
+
+    void reset() {
+        n = 0;
+    }
+}

@@ -1,0 +1,10 @@
+class A {
+    int[] t = new int[9];
+    @IndexOrHigh("t") int n;
+
+    void f() {
+        if (n < t.length) {
+            n++;
+        }
+    }
+}
