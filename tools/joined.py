@@ -65,19 +65,19 @@ class Outcome:
         self.last = last or f"rejected: {len(told)} errors"
 
 
-def alone(name, data):
-    """What is told of a file by itself before it is joined with others: that it can't be read, has no tokens or no tree, or was not judged."""
+def alone(name, data, options=()):
+    """What is told of a file as a program of its own."""
     if data is None:
         return Outcome([], [Told(name, None, None, "read failed")], program.READ_FAILED)
-    answer = program.check(data)
-    told = [Told(name, error.line, error.column, error.key) for error in answer.errors if error.key in program.NO_TREE]
-    return Outcome(told, [Told(name, *answer.failure)] if answer.failure else [], answer.status)
+    answer = program.check(data, options)
+    told = [Told(name, error.line, error.column, error.words) for error in answer.errors]
+    return Outcome(told, [Told(name, *answer.failure)] if answer.failure else [], answer.status, answer.last)
 
 
 def together(joined, options):
     """What is told of joined files."""
     answer = program.check(joined.text, options)
-    told = [Told(*joined.place(error.line), error.column, ": ".join(filter(None, (error.key, error.claim)))) for error in answer.errors]
+    told = [Told(*joined.place(error.line), error.column, error.words) for error in answer.errors]
     return Outcome(told, [failure_at(joined, answer.failure)] if answer.failure else [], answer.status, answer.last)
 
 
@@ -89,12 +89,12 @@ def failure_at(joined, failure):
 
 
 def read(names):
-    """The files of these names joined, and what is told where they can't be; one of the two is nothing. Each is asked by itself first: what is no source alone could be
-    one with the next file behind it."""
+    """The files of these names joined, and what is told where they can't be; one of the two is nothing. Each is asked by itself first whether it has tokens and a tree: what
+    has none could have one with the next file behind it."""
     every = [program.read(name) for name in names]
     with concurrent.futures.ThreadPoolExecutor(os.cpu_count()) as pool:
         first = list(pool.map(alone, names, every))
-    told = [line for one in first for line in one.told]
+    told = [line for one in first for line in one.told if line.words in program.NO_TREE]
     failures = [line for one in first for line in one.failures]
     if failures:
         return None, Outcome(told, failures, next(one.status for one in first if one.failures))

@@ -11,16 +11,22 @@ TOP = os.path.dirname(os.path.dirname(os.path.realpath(__file__)))
 MOST_READ = 1048577
 # The status of `./indexcheck` too, where there is no program.
 NO_PROGRAM = 126
-READ_FAILED = 3
-USAGE = 2
+USAGE, READ_FAILED, WRITE_FAILED = 2, 3, 4
 # The keys of a text that has no tokens or no tree.
 NO_TREE = {"bad.utf8", "bad.character", "open.comment", "open.string", "bad.number", "syntax"}
 LINE = re.compile(r"/dev/stdin:(?:(\d+):(\d+):)? (.*)", re.S)
 
-# An error: its place, its key, and behind it whom it speaks of with a claim, or nothing.
-Error = collections.namedtuple("Error", "line column key claim")
 # Why a text was not judged: a place in it, or nothing twice, and words.
 Failure = collections.namedtuple("Failure", "line column words")
+
+
+class Error(collections.namedtuple("Error", "line column key claim")):
+    """An error: its place, its key, and behind it whom it speaks of with a claim, or nothing."""
+
+    @property
+    def words(self):
+        """What stands behind the place, as `check` tells it."""
+        return f"{self.key}: {self.claim}" if self.claim else self.key
 
 
 def place():
@@ -44,6 +50,15 @@ def demand(script):
 def leave(script, words, status=USAGE):
     print(f"{script}: {words}" if script else words, file=sys.stderr)
     sys.exit(status)
+
+
+def write(stream, data):
+    """Writes bytes to a stream of the process, and ends the script where that takes no more."""
+    try:
+        stream.buffer.write(data)
+        stream.flush()
+    except OSError:
+        os._exit(WRITE_FAILED)
 
 
 class Answer:

@@ -19,10 +19,9 @@ def lines_of(text):
     return LINE_END.split(text)
 
 
-def line_at(text, number):
+def line_at(lines, number):
     """The line of that number from 1; empty behind the last one."""
-    lines = lines_of(text)
-    return lines[number - 1] if number <= len(lines) else ""
+    return lines[number - 1] if 1 <= number <= len(lines) else ""
 
 
 def token_end(line, column):
@@ -33,12 +32,9 @@ def token_end(line, column):
 
 def units(line, column):
     """How many units of UTF-16 stand before that column: what an editor counts, from 0."""
-    return len(line[: column - 1].encode("utf-16-le", "surrogatepass")) // 2
+    return column - 1 if line.isascii() else len(line[: column - 1].encode("utf-16-le", "surrogatepass")) // 2
 
 
 def column_at(line, count):
     """The column of the character that has the unit of UTF-16 behind so many."""
-    column = 1
-    while column <= len(line) and units(line, column + 1) <= count:
-        column += 1
-    return column
+    return len(line.encode("utf-16-le", "surrogatepass")[: 2 * count].decode("utf-16-le", "ignore")) + 1
