@@ -38,11 +38,9 @@ fn written_reply(
     text: Vec<u8>,
     program: &Program,
 ) -> Result<Reply, AllocError>
-    requires { record {
-      found : Found text.items (Whole program.now);
-      formed : Formed program.now;
-      can : CanCheck program.now;
-    } }
+    requires found { Found text.items (Whole program.now) }
+    requires formed { Formed program.now }
+    requires can { CanCheck program.now }
     ensures answers { IfOk result (λ reply. spec.AnswersGuarded profile text.items program.now (shown reply)) }
     ensures safe { IfOk result (λ reply. (shown reply).status ≡ Status.Done → SafeText profile (shown reply).out) }
 {
