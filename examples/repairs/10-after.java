@@ -1,5 +1,9 @@
 class A {
-    static int f(int @MinLen(1) [] a, int h) {
-        return a[(h & 0x7fffffff) % a.length];
+    static int f(int[] a, @IndexFor("#1") int i) {
+        int j = i - 1;
+        if (j < 0) {
+            j = a.length - 1;
+        }
+        return a[j];
     }
 }

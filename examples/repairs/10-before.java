@@ -1,8 +1,5 @@
 class A {
-    static int f(int @MinLen(1) [] a, int h) {
-        if (h < 0) {
-            h = -h;
-        }
-        return a[h % a.length];
+    static int f(int[] a, @IndexFor("#1") int i) {
+        return a[(i + a.length - 1) % a.length];
     }
 }

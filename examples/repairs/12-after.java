@@ -1,10 +1,18 @@
 class A {
-    static int f(int[] a, int[] b, int i) {
-        int n = b.length;
-        int d = a.length - n;
-        if (d >= 0 && i >= 0 && i < n) {
-            return a[d + i];
+    static void f(int[] a) {
+        int n = a.length;
+        boolean go = true;
+        while (go && n > 0) {
+            go = false;
+            for (int i = 1; i < n; i++) {
+                if (a[i - 1] > a[i]) {
+                    int x = a[i];
+                    a[i] = a[i - 1];
+                    a[i - 1] = x;
+                    go = true;
+                }
+            }
+            n--;
         }
-        return 0;
     }
 }

@@ -1,9 +1,18 @@
 class A {
-    static int f(int[] a, int[] b, int i) {
-        int d = a.length - b.length;
-        if (d >= 0 && i >= 0 && i < b.length) {
-            return a[d + i];
+    static void f(int[] a) {
+        int n = a.length;
+        boolean go = true;
+        while (go) {
+            go = false;
+            for (int i = 1; i < n; i++) {
+                if (a[i - 1] > a[i]) {
+                    int x = a[i];
+                    a[i] = a[i - 1];
+                    a[i - 1] = x;
+                    go = true;
+                }
+            }
+            n--;
         }
-        return 0;
     }
 }

@@ -1,12 +1,9 @@
 class A {
-    static int f(int[] a, int[] b, @NonNegative int i) {
-        int n = a.length;
-        int m = b.length;
-        if (m < n) {
-            n = m;
-        }
-        if (i < n) {
-            return a[i];
+    static int f(int[] a, int[] b, int i) {
+        int n = b.length;
+        int d = a.length - n;
+        if (d >= 0 && i >= 0 && i < n) {
+            return a[d + i];
         }
         return 0;
     }

@@ -1,11 +1,8 @@
 class A {
-    static int f(int[] a, int[] b, @NonNegative int i) {
-        int n = a.length;
-        if (b.length < n) {
-            n = b.length;
-        }
-        if (i < n) {
-            return a[i];
+    static int f(int[] a, int[] b, int i) {
+        int d = a.length - b.length;
+        if (d >= 0 && i >= 0 && i < b.length) {
+            return a[d + i];
         }
         return 0;
     }

@@ -1,11 +1,12 @@
 class A {
-    @NonNegative int h;
-
-    int f(int[] a, @NonNegative int n) {
-        int k = h;
-        int r = a.length - k;
-        if (n < r) {
-            return a[k + n];
+    static int f(int[] a, int[] b, @NonNegative int i) {
+        int n = a.length;
+        int m = b.length;
+        if (m < n) {
+            n = m;
+        }
+        if (i < n) {
+            return a[i];
         }
         return 0;
     }

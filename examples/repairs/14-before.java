@@ -1,10 +1,11 @@
 class A {
-    @NonNegative int h;
-
-    int f(int[] a, @NonNegative int n) {
-        int r = a.length - h;
-        if (n < r) {
-            return a[h + n];
+    static int f(int[] a, int[] b, @NonNegative int i) {
+        int n = a.length;
+        if (b.length < n) {
+            n = b.length;
+        }
+        if (i < n) {
+            return a[i];
         }
         return 0;
     }

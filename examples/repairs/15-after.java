@@ -1,8 +1,11 @@
 class A {
-    static int f(int[] a, @IntRange(from = 0, to = 9) int i) {
-        int c = 2 * i + 1;
-        if (c < a.length) {
-            return a[c];
+    @NonNegative int h;
+
+    int f(int[] a, @NonNegative int n) {
+        int k = h;
+        int r = a.length - k;
+        if (n < r) {
+            return a[k + n];
         }
         return 0;
     }

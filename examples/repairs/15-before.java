@@ -1,7 +1,10 @@
 class A {
-    static int f(int[] a, @IntRange(from = 0, to = 9) int i) {
-        if (2 * i + 1 < a.length) {
-            return a[2 * i + 1];
+    @NonNegative int h;
+
+    int f(int[] a, @NonNegative int n) {
+        int r = a.length - h;
+        if (n < r) {
+            return a[h + n];
         }
         return 0;
     }

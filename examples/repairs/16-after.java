@@ -1,9 +1,9 @@
 class A {
-    static int f(int[] a, @IndexOrHigh("#1") int l, @IndexOrHigh("#1") int h) {
-        int n = h - l;
-        if (n < 2) {
-            return 0;
+    static int f(int[] a, @IntRange(from = 0, to = 9) int i) {
+        int c = 2 * i + 1;
+        if (c < a.length) {
+            return a[c];
         }
-        return a[l + n / 2];
+        return 0;
     }
 }

@@ -1,8 +1,8 @@
 class A {
-    static int f(int[] a, @IndexOrHigh("#1") int l, @IndexOrHigh("#1") int h) {
-        if (h - l < 2) {
-            return 0;
+    static int f(int[] a, @IntRange(from = 0, to = 9) int i) {
+        if (2 * i + 1 < a.length) {
+            return a[2 * i + 1];
         }
-        return a[l + (h - l) / 2];
+        return 0;
     }
 }

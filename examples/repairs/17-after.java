@@ -1,9 +1,9 @@
 class A {
-    static int f(int[][] m, @IndexFor("#1") int r, @NonNegative int c) {
-        int[] row = m[r];
-        if (c < row.length) {
-            return row[c];
+    static int f(int[] a, @IndexOrHigh("#1") int l, @IndexOrHigh("#1") int h) {
+        int n = h - l;
+        if (n < 2) {
+            return 0;
         }
-        return 0;
+        return a[l + n / 2];
     }
 }

@@ -1,8 +1,8 @@
 class A {
-    static int f(int[][] m, @IndexFor("#1") int r, @NonNegative int c) {
-        if (c < m[r].length) {
-            return m[r][c];
+    static int f(int[] a, @IndexOrHigh("#1") int l, @IndexOrHigh("#1") int h) {
+        if (h - l < 2) {
+            return 0;
         }
-        return 0;
+        return a[l + (h - l) / 2];
     }
 }

@@ -1,12 +1,9 @@
 class A {
-    static int f(int[][] m) {
-        int s = 0;
-        for (int i = 0; i < m.length; i++) {
-            int[] row = m[i];
-            if (i < row.length) {
-                s += row[i];
-            }
+    static int f(int[][] m, @IndexFor("#1") int r, @NonNegative int c) {
+        int[] row = m[r];
+        if (c < row.length) {
+            return row[c];
         }
-        return s;
+        return 0;
     }
 }

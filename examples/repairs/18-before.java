@@ -1,9 +1,8 @@
 class A {
-    static int f(int[][] m) {
-        int s = 0;
-        for (int i = 0; i < m.length; i++) {
-            s += m[i][i];
+    static int f(int[][] m, @IndexFor("#1") int r, @NonNegative int c) {
+        if (c < m[r].length) {
+            return m[r][c];
         }
-        return s;
+        return 0;
     }
 }

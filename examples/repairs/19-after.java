@@ -1,11 +1,12 @@
 class A {
-    static int[][] f(@IntRange(from = 0, to = 1000) int n) {
-        int[][] m = new int[n][];
-        for (int i = 0; i < n; i++) {
-            int[] row = new int[n];
-            row[i] = 1;
-            m[i] = row;
+    static int f(int[][] m) {
+        int s = 0;
+        for (int i = 0; i < m.length; i++) {
+            int[] row = m[i];
+            if (i < row.length) {
+                s += row[i];
+            }
         }
-        return m;
+        return s;
     }
 }

@@ -1,10 +1,9 @@
 class A {
-    static int[][] f(@IntRange(from = 0, to = 1000) int n) {
-        int[][] m = new int[n][];
-        for (int i = 0; i < n; i++) {
-            m[i] = new int[n];
-            m[i][i] = 1;
+    static int f(int[][] m) {
+        int s = 0;
+        for (int i = 0; i < m.length; i++) {
+            s += m[i][i];
         }
-        return m;
+        return s;
     }
 }

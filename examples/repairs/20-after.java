@@ -1,9 +1,11 @@
 class A {
-    static int f(int[] a, int[] p, @IndexFor("#2") int i) {
-        int j = p[i];
-        if (j >= 0 && j < a.length) {
-            return a[j];
+    static int[][] f(@IntRange(from = 0, to = 1000) int n) {
+        int[][] m = new int[n][];
+        for (int i = 0; i < n; i++) {
+            int[] row = new int[n];
+            row[i] = 1;
+            m[i] = row;
         }
-        return 0;
+        return m;
     }
 }

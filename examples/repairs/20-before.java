@@ -1,8 +1,10 @@
 class A {
-    static int f(int[] a, int[] p, @IndexFor("#2") int i) {
-        if (p[i] >= 0 && p[i] < a.length) {
-            return a[p[i]];
+    static int[][] f(@IntRange(from = 0, to = 1000) int n) {
+        int[][] m = new int[n][];
+        for (int i = 0; i < n; i++) {
+            m[i] = new int[n];
+            m[i][i] = 1;
         }
-        return 0;
+        return m;
     }
 }

@@ -1,11 +1,8 @@
 class A {
-    int[] t = new int[9];
-    A next;
-
-    int f(@NonNegative int i) {
-        int[] u = next.t;
-        if (i < u.length) {
-            return u[i];
+    static int f(int[] a, int[] p, @IndexFor("#2") int i) {
+        int j = p[i];
+        if (j >= 0 && j < a.length) {
+            return a[j];
         }
         return 0;
     }

@@ -1,10 +1,7 @@
 class A {
-    int[] t = new int[9];
-    A next;
-
-    int f(@NonNegative int i) {
-        if (i < next.t.length) {
-            return next.t[i];
+    static int f(int[] a, int[] p, @IndexFor("#2") int i) {
+        if (p[i] >= 0 && p[i] < a.length) {
+            return a[p[i]];
         }
         return 0;
     }

@@ -1,15 +1,9 @@
 class A {
-    final int[] t = new int[9];
-
-    int[] all() {
-        return t;
-    }
-
-    int f(@NonNegative int i) {
-        int[] u = all();
-        if (i < u.length) {
-            return u[i];
+    static int[] f(int[] a) {
+        int[] c = new int[256];
+        for (int i = 0; i < a.length; i++) {
+            c[a[i] & 255]++;
         }
-        return 0;
+        return c;
     }
 }

@@ -1,14 +1,9 @@
 class A {
-    final int[] t = new int[9];
-
-    int[] all() {
-        return t;
-    }
-
-    int f(@NonNegative int i) {
-        if (i < all().length) {
-            return all()[i];
+    static int[] f(int[] a) {
+        int[] c = new int[256];
+        for (int i = 0; i < a.length; i++) {
+            c[a[i]]++;
         }
-        return 0;
+        return c;
     }
 }

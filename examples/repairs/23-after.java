@@ -1,14 +1,11 @@
 class A {
-    final int[] t = new int[9];
-    @NonNegative int at;
+    int[] t = new int[9];
+    A next;
 
-    @EnsuresLTLengthOfIf(expression = "at", result = true, targetValue = "t") boolean more() {
-        return at < t.length;
-    }
-
-    int f() {
-        if (more()) {
-            return t[at];
+    int f(@NonNegative int i) {
+        int[] u = next.t;
+        if (i < u.length) {
+            return u[i];
         }
         return 0;
     }

@@ -1,14 +1,10 @@
 class A {
-    final int[] t = new int[9];
-    @NonNegative int at;
+    int[] t = new int[9];
+    A next;
 
-    boolean more() {
-        return at < t.length;
-    }
-
-    int f() {
-        if (more()) {
-            return t[at];
+    int f(@NonNegative int i) {
+        if (i < next.t.length) {
+            return next.t[i];
         }
         return 0;
     }

@@ -1,7 +1,14 @@
 class A {
-    static int f(int[] a, @NonNegative int i) {
-        if (i < a.length) {
-            return a[i];
+    final int[] t = new int[9];
+
+    int[] all() {
+        return t;
+    }
+
+    int f(@NonNegative int i) {
+        int[] u = all();
+        if (i < u.length) {
+            return u[i];
         }
         return 0;
     }

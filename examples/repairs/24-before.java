@@ -1,8 +1,13 @@
 class A {
-    static int f(int[] a, @NonNegative int i) {
-        boolean inside = i < a.length;
-        if (inside) {
-            return a[i];
+    final int[] t = new int[9];
+
+    int[] all() {
+        return t;
+    }
+
+    int f(@NonNegative int i) {
+        if (i < all().length) {
+            return all()[i];
         }
         return 0;
     }

@@ -1,15 +1,15 @@
 class A {
-    static @IndexFor("#1") int check(int[] a, int i) {
-        if (i < 0) {
-            throw new X();
-        }
-        if (i >= a.length) {
-            throw new X();
-        }
-        return i;
+    final int[] t = new int[9];
+    @NonNegative int at;
+
+    @EnsuresLTLengthOfIf(expression = "at", result = true, targetValue = "t") boolean more() {
+        return at < t.length;
     }
 
-    static int f(int[] a, int i) {
-        return a[check(a, i)];
+    int f() {
+        if (more()) {
+            return t[at];
+        }
+        return 0;
     }
 }

@@ -1,15 +1,15 @@
 class A {
-    static void check(int[] a, int i) {
-        if (i < 0) {
-            throw new X();
-        }
-        if (i >= a.length) {
-            throw new X();
-        }
+    final int[] t = new int[9];
+    @NonNegative int at;
+
+    boolean more() {
+        return at < t.length;
     }
 
-    static int f(int[] a, int i) {
-        check(a, i);
-        return a[i];
+    int f() {
+        if (more()) {
+            return t[at];
+        }
+        return 0;
     }
 }

@@ -1,18 +1,16 @@
 class A {
-    static @LTLengthOf("#1") int find(int[] a) {
-        for (int i = 0; i < a.length; i++) {
-            if (a[i] == 0) {
-                return i;
-            }
-        }
-        return -1;
+    final int[] t = new int[9];
+    @IndexOrHigh("t") int n;
+
+    boolean isEmpty() {
+        return n == 0;
     }
 
-    static int f(int[] a) {
-        int i = find(a);
-        if (i >= 0) {
-            return a[i];
+    int pop() {
+        if (n == 0) {
+            throw new X();
         }
-        return 0;
+        n--;
+        return t[n];
     }
 }

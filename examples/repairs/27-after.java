@@ -1,10 +1,8 @@
 class A {
-    static int @SameLen("#1") [] blank(int[] a) {
-        int[] b = new int[a.length];
-        return b;
-    }
-
-    static int f(int[] a, @IndexFor("#1") int i) {
-        return blank(a)[i];
+    static int f(int[] a, @NonNegative int i) {
+        if (i < a.length) {
+            return a[i];
+        }
+        return 0;
     }
 }

@@ -1,9 +1,9 @@
 class A {
-    static int[] blank(int[] a) {
-        return new int[a.length];
-    }
-
-    static int f(int[] a, @IndexFor("#1") int i) {
-        return blank(a)[i];
+    static int f(int[] a, @NonNegative int i) {
+        boolean inside = i < a.length;
+        if (inside) {
+            return a[i];
+        }
+        return 0;
     }
 }

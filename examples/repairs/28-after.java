@@ -1,13 +1,19 @@
 class A {
     final int[] t = new int[9];
+    @IndexOrHigh("t") int at;
 
-    @LTEqLengthOf("t") int size() {
-        return t.length;
+    int next() {
+        if (at >= t.length) {
+            throw new X();
+        }
+        int c = t[at];
+        at++;
+        return c;
     }
 
-    int f(@NonNegative int i) {
-        if (i < size()) {
-            return t[i];
+    int f() {
+        if (at < t.length) {
+            return next();
         }
         return 0;
     }

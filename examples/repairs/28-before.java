@@ -1,13 +1,16 @@
 class A {
     final int[] t = new int[9];
+    @IndexOrHigh("t") int at;
 
-    int size() {
-        return t.length;
+    int next() {
+        int c = t[at];
+        at++;
+        return c;
     }
 
-    int f(@NonNegative int i) {
-        if (i < size()) {
-            return t[i];
+    int f() {
+        if (at < t.length) {
+            return next();
         }
         return 0;
     }

@@ -1,14 +1,15 @@
 class A {
-    static int[] make(@NonNegative int n) {
-        return new int[n];
+    static void check(int[] a, int i) {
+        if (i < 0) {
+            throw new X();
+        }
+        if (i >= a.length) {
+            throw new X();
+        }
     }
 
-    static int f(@NonNegative int n) {
-        int[] a = make(n);
-        int s = 0;
-        for (int i = 0; i < n; i++) {
-            s += a[i];
-        }
-        return s;
+    static int f(int[] a, int i) {
+        check(a, i);
+        return a[i];
     }
 }

@@ -1,13 +1,18 @@
 class A {
-    static int f(int[] a, int n) {
-        int s = 0;
-        for (int i = 0; i < n; i++) {
-            s += a[i];
+    static int find(int[] a) {
+        for (int i = 0; i < a.length; i++) {
+            if (a[i] == 0) {
+                return i;
+            }
         }
-        return s;
+        return -1;
     }
 
-    static int g(int[] a) {
-        return f(a, a.length);
+    static int f(int[] a) {
+        int i = find(a);
+        if (i >= 0) {
+            return a[i];
+        }
+        return 0;
     }
 }

@@ -1,9 +1,10 @@
 class A {
-    static int last(int @MinLen(1) [] a) {
-        return a[a.length - 1];
+    static int @SameLen("#1") [] blank(int[] a) {
+        int[] b = new int[a.length];
+        return b;
     }
 
-    static int f() {
-        return last(new int[3]);
+    static int f(int[] a, @IndexFor("#1") int i) {
+        return blank(a)[i];
     }
 }

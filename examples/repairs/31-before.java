@@ -1,9 +1,9 @@
 class A {
-    static int last(int[] a) {
-        return a[a.length - 1];
+    static int[] blank(int[] a) {
+        return new int[a.length];
     }
 
-    static int f() {
-        return last(new int[3]);
+    static int f(int[] a, @IndexFor("#1") int i) {
+        return blank(a)[i];
     }
 }

@@ -1,15 +1,14 @@
 class A {
-    static @NonNegative @LessThan("#1") int below(@Positive int k) {
-        return k / 2;
+    final int[] t = new int[9];
+
+    @LTEqLengthOf("t") int size() {
+        return t.length;
     }
 
-    static void g(int i, @LessThan("#1") int j) { }
-    static void f(int i, @Positive int k) {
-        if (k < i) {
-            int j = below(k);
-            if (j < k) {
-                g(i, j);
-            }
+    int f(@NonNegative int i) {
+        if (i < size()) {
+            return t[i];
         }
+        return 0;
     }
 }

@@ -1,16 +1,14 @@
 class A {
-    int[] t = new int[9];
-
-    void log(int x) {
-        System.out.println(x);
+    static int[] make(@NonNegative int n) {
+        return new int[n];
     }
 
-    int f(@NonNegative int i) {
-        int[] u = t;
-        if (i < u.length) {
-            log(i);
-            return u[i];
+    static int f(@NonNegative int n) {
+        int[] a = make(n);
+        int s = 0;
+        for (int i = 0; i < a.length; i++) {
+            s += a[i];
         }
-        return 0;
+        return s;
     }
 }

@@ -1,15 +1,14 @@
 class A {
-    int[] t = new int[9];
-
-    void log(int x) {
-        System.out.println(x);
+    static int[] make(@NonNegative int n) {
+        return new int[n];
     }
 
-    int f(@NonNegative int i) {
-        if (i < t.length) {
-            log(i);
-            return t[i];
+    static int f(@NonNegative int n) {
+        int[] a = make(n);
+        int s = 0;
+        for (int i = 0; i < n; i++) {
+            s += a[i];
         }
-        return 0;
+        return s;
     }
 }

@@ -1,12 +1,13 @@
 class A {
-    int[] t = new int[9];
-
-    void zero(@IndexFor("t") int i) {
-        t[i] = 0;
+    static int f(int[] a, int n) {
+        int s = 0;
+        for (int i = 0; i < n; i++) {
+            s += a[i];
+        }
+        return s;
     }
 
-    void f(@IndexFor("t") int i) {
-        zero(i);
-        t[i]++;
+    static int g(int[] a) {
+        return f(a, a.length);
     }
 }

@@ -1,12 +1,9 @@
 class A {
-    int[] t = new int[9];
-
-    int f(A b, @NonNegative int i) {
-        int[] u = t;
-        if (i < u.length) {
-            b.t = new int[9];
-            return u[i];
+    static int f(int[] a, int @SameLen("#1") [] b) {
+        int s = 0;
+        for (int i = 0; i < a.length; i++) {
+            s += a[i] * b[i];
         }
-        return 0;
+        return s;
     }
 }

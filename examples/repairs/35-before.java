@@ -1,11 +1,9 @@
 class A {
-    int[] t = new int[9];
-
-    int f(A b, @NonNegative int i) {
-        if (i < t.length) {
-            b.t = new int[9];
-            return t[i];
+    static int f(int[] a, int[] b) {
+        int s = 0;
+        for (int i = 0; i < a.length; i++) {
+            s += a[i] * b[i];
         }
-        return 0;
+        return s;
     }
 }

@@ -1,24 +1,9 @@
 class A {
-    int[] t = new int[4];
-    @IndexOrHigh("t") int n;
-
-    void grow() {
-        int m = n;
-        if (m > 1000000) {
-            throw new X();
-        }
-        int[] u = new int[m + m + 1];
-        for (int i = 0; i < m; i++) {
-            u[i] = t[i];
-        }
-        t = u;
+    static int last(int[] a) {
+        return a[a.length - 1];
     }
 
-    void add(int x) {
-        if (n == t.length) {
-            grow();
-        }
-        t[n] = x;
-        n++;
+    static int f() {
+        return last(new int[3]);
     }
 }

@@ -1,9 +1,13 @@
 class A {
-    int[] t = new int[9];
-    @IndexOrHigh("t") int n;
+    static @NonNegative @LessThan("#1") int below(@Positive int k) {
+        return k / 2;
+    }
 
-    void clear() {
-        t = new int[4];
-        n = 0;
+    static void g(int i, @LessThan("#1") int j) { }
+    static void f(int i, @Positive int k) {
+        if (k < i) {
+            int j = below(k);
+            g(i, j);
+        }
     }
 }

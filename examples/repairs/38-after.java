@@ -1,15 +1,15 @@
 class A {
-    @IndexOrHigh("t") final int n;
-    final int[] t;
+    int[] t = new int[9];
 
-    A(@NonNegative int k) {
-        n = k;
-        t = new int[k];
+    void log(int x) {
+        System.out.println(x);
     }
 
     int f(@NonNegative int i) {
-        if (i < n) {
-            return t[i];
+        int[] u = t;
+        if (i < u.length) {
+            log(i);
+            return u[i];
         }
         return 0;
     }

@@ -1,14 +1,13 @@
 class A {
-    final int n;
-    final int[] t;
+    int[] t = new int[9];
 
-    A(@NonNegative int k) {
-        n = k;
-        t = new int[k];
+    void log(int x) {
+        System.out.println(x);
     }
 
     int f(@NonNegative int i) {
-        if (i < n) {
+        if (i < t.length) {
+            log(i);
             return t[i];
         }
         return 0;

@@ -1,16 +1,12 @@
 class A {
-    final int[] k;
-    final int[] v;
+    int[] t = new int[9];
 
-    A(@NonNegative int n) {
-        k = new int[n];
-        v = new int[n];
+    void zero(@IndexFor("t") int i) {
+        t[i] = 0;
     }
 
-    int f(@NonNegative int i) {
-        if (i < k.length) {
-            return v[i];
-        }
-        return 0;
+    void f(@IndexFor("t") int i) {
+        zero(i);
+        t[i]++;
     }
 }

@@ -1,12 +1,12 @@
 class A {
-    final int @MinLen(1) [] t = new int[3];
+    int[] t = new int[9];
 
-    int at(@IndexFor("t") int i) {
-        return t[i];
-    }
-
-    static int f(A a) {
-        int[] t = a.t;
-        return a.at(0);
+    int f(A b, @NonNegative int i) {
+        int[] u = t;
+        if (i < u.length) {
+            b.t = new int[9];
+            return u[i];
+        }
+        return 0;
     }
 }

@@ -1,11 +1,11 @@
 class A {
-    final int @MinLen(1) [] t = new int[3];
+    int[] t = new int[9];
 
-    int at(@IndexFor("t") int i) {
-        return t[i];
-    }
-
-    static int f(A a) {
-        return a.at(0);
+    int f(A b, @NonNegative int i) {
+        if (i < t.length) {
+            b.t = new int[9];
+            return t[i];
+        }
+        return 0;
     }
 }

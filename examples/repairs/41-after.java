@@ -1,11 +1,20 @@
 class A {
-    int n;
+    int[] t = new int[4];
+    @IndexOrHigh("t") int n;
 
-    A() {
-        n = 0;
-    }
-
-    void reset() {
-        n = 0;
+    void add(int x) {
+        if (n == t.length) {
+            int m = n;
+            if (m > 1000000) {
+                throw new X();
+            }
+            int[] u = new int[m + m + 1];
+            for (int i = 0; i < m; i++) {
+                u[i] = t[i];
+            }
+            t = u;
+        }
+        t[n] = x;
+        n++;
     }
 }

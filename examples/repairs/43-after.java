@@ -1,5 +1,9 @@
 class A {
-    static @IndexOrHigh("#1") int f(int[] a, @NegativeIndexFor("#1") int r) {
-        return ~r;
+    int[] t = new int[9];
+    @IndexOrHigh("t") int n;
+
+    void clear() {
+        n = 0;
+        t = new int[4];
     }
 }

@@ -1,5 +1,9 @@
 class A {
-    static @IndexOrHigh("#1") int f(int[] a, @NegativeIndexFor("#1") int r) {
-        return -(r + 1);
+    int[] t = new int[9];
+    @IndexOrHigh("t") int n;
+
+    void clear() {
+        t = new int[4];
+        n = 0;
     }
 }

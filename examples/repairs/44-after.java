@@ -1,11 +1,15 @@
 class A {
-    static int f(int @MinLen(1) [] a, int h) {
-        int r = h % a.length;
-        if (r < 0) {
-            r += a.length;
-        }
-        if (r >= 0) {
-            return a[r];
+    @IndexOrHigh("t") final int n;
+    final int[] t;
+
+    A(@NonNegative int k) {
+        n = k;
+        t = new int[k];
+    }
+
+    int f(@NonNegative int i) {
+        if (i < n) {
+            return t[i];
         }
         return 0;
     }

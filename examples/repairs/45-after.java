@@ -1,5 +1,16 @@
 class A {
-    static int f(int @MinLen(1) [] a) {
-        return a[a.length / 2];
+    final int[] k;
+    final int @SameLen("k") [] v;
+
+    A(@NonNegative int n) {
+        k = new int[n];
+        v = new int[n];
+    }
+
+    int f(@NonNegative int i) {
+        if (i < k.length) {
+            return v[i];
+        }
+        return 0;
     }
 }

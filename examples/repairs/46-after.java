@@ -1,7 +1,12 @@
 class A {
-    static int[] f(@IntRange(from = 1, to = 1000000) int n, int x) {
-        int[] b = new int[n + n];
-        b[n] = x;
-        return b;
+    final int @MinLen(1) [] t = new int[3];
+
+    int at(@IndexFor("t") int i) {
+        return t[i];
+    }
+
+    static int f(A a) {
+        int[] t = a.t;
+        return a.at(0);
     }
 }

@@ -1,10 +1,9 @@
 class A {
-    final int[] t = new int[9];
-    @IndexFor("t") int h;
-
-    int f() {
-        int n = t.length;
-        int k = h;
-        return t[n - k - 1];
+    static int f(int @MinLen(1) [] a, int h) {
+        int r = h % a.length;
+        if (r < 0) {
+            r += a.length;
+        }
+        return a[r];
     }
 }

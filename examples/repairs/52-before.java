@@ -1,9 +1,7 @@
 class A {
-    static int f(int[] a) {
-        int s = 0;
-        for (@IndexFor("a") int i = 0; i < a.length; i++) {
-            s += a[i];
-        }
-        return s;
+    static int[] f(@IntRange(from = 1, to = 1000000) int n, int x) {
+        int[] b = new int[2 * n];
+        b[n] = x;
+        return b;
     }
 }

@@ -1,14 +1,12 @@
 class A {
-    static int f(int[] a) {
-        int at = -1;
-        for (int i = 0; i < a.length; i++) {
-            if (a[i] == 0) {
-                at = i;
-            }
+    static int[] f(@IntRange(from = 0, to = 9) int n) {
+        int[] r = new int[n + n];
+        for (int i = 0; i < n; i++) {
+            r[i] = i;
         }
-        if (at >= 0) {
-            return a[at];
+        for (int j = 0; j < n; j++) {
+            r[n + j] = j;
         }
-        return 0;
+        return r;
     }
 }

@@ -1,16 +1,15 @@
 class A {
-    static int f(int[] a) {
-        int at = -1;
-        boolean found = false;
-        for (int i = 0; i < a.length; i++) {
-            if (a[i] == 0) {
-                at = i;
-                found = true;
-            }
+    static int[] f(@IntRange(from = 0, to = 9) int n) {
+        int[] r = new int[n + n];
+        int k = 0;
+        for (int i = 0; i < n; i++) {
+            r[k] = i;
+            k++;
         }
-        if (found) {
-            return a[at];
+        for (int j = 0; j < n; j++) {
+            r[k] = j;
+            k++;
         }
-        return 0;
+        return r;
     }
 }

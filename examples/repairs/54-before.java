@@ -1,9 +1,27 @@
 class A {
-    static int f(int @MinLen(2) [] a, int[] p, @IndexFor("#2") int i) {
-        return a[p[i]];
-    }
-
-    static int g() {
-        return f(new int[2], new int[] { 1, 0 }, 1);
+    static int[] f(int[] a, int[] b) {
+        int n = a.length;
+        int m = b.length;
+        if (n > 1000000 || m > 1000000) {
+            throw new X();
+        }
+        int[] r = new int[n + m];
+        int i = 0;
+        int j = 0;
+        int k = 0;
+        while (i < n && j < m) {
+            if (a[i] <= b[j]) {
+                r[k++] = a[i++];
+            } else {
+                r[k++] = b[j++];
+            }
+        }
+        while (i < n) {
+            r[k++] = a[i++];
+        }
+        while (j < m) {
+            r[k++] = b[j++];
+        }
+        return r;
     }
 }

@@ -1,9 +1,13 @@
 class A {
-    static int f(int[] a, @NonNegative int[] p, @IndexFor("#2") int i) {
-        int j = p[i];
-        if (j >= a.length) {
+    static int[] f(int[] a, @IndexOrHigh("#1") int from, @IndexOrHigh("#1") int to) {
+        if (from > to) {
             throw new X();
         }
-        return a[j];
+        int n = to - from;
+        int[] r = new int[n];
+        for (int i = 0; i < n; i++) {
+            r[i] = a[from + i];
+        }
+        return r;
     }
 }

@@ -1,7 +1,7 @@
 class A {
-    int size;
-
-    int size() {
-        return size;
+    static void f(int[] a, int[] b) {
+        for (int i = 0; i < a.length; i++) {
+            b[i + 1] = a[i];
+        }
     }
 }

@@ -1,9 +1,12 @@
 class A {
-    static int f(int[] a, @NonNegative int i) {
-        int c = 2 * i + 1;
-        if (c >= 0 && c < a.length) {
-            return a[c];
+    static int[] f(@NonNegative int[] a) {
+        int n = 0;
+        for (int i = 0; i < a.length; i++) {
+            n += a[i];
         }
-        return 0;
+        if (n < 0) {
+            throw new X();
+        }
+        return new int[n];
     }
 }

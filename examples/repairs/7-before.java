@@ -1,9 +1,9 @@
 class A {
-    static int f(int[] a, @NonNegative int i) {
-        int c = 2 * i + 1;
-        if (c < a.length) {
-            return a[c];
+    static int[] f(@NonNegative int[] a) {
+        int n = 0;
+        for (int i = 0; i < a.length; i++) {
+            n += a[i];
         }
-        return 0;
+        return new int[n];
     }
 }

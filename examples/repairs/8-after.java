@@ -1,10 +1,9 @@
 class A {
-    int[] t = new int[9];
-    @IndexOrHigh("t") int n;
-
-    void f() {
-        if (n < t.length) {
-            n++;
+    static int f(int[] a, @NonNegative int i) {
+        int c = 2 * i + 1;
+        if (c >= 0 && c < a.length) {
+            return a[c];
         }
+        return 0;
     }
 }

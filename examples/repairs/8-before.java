@@ -1,8 +1,9 @@
 class A {
-    int[] t = new int[9];
-    @NonNegative int n;
-
-    void f() {
-        n++;
+    static int f(int[] a, @NonNegative int i) {
+        int c = 2 * i + 1;
+        if (c < a.length) {
+            return a[c];
+        }
+        return 0;
     }
 }

@@ -1,9 +1,11 @@
 class A {
-    static int f(int[] a, @IndexFor("#1") int i) {
-        int j = i - 1;
-        if (j < 0) {
-            j = a.length - 1;
+    int[] t = new int[9];
+    @IndexOrHigh("t") int n;
+
+    void f() {
+        if (n == t.length) {
+            throw new X();
         }
-        return a[j];
+        n++;
     }
 }

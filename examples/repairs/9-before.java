@@ -1,5 +1,8 @@
 class A {
-    static int f(int[] a, @IndexFor("#1") int i) {
-        return a[(i + a.length - 1) % a.length];
+    int[] t = new int[9];
+    @NonNegative int n;
+
+    void f() {
+        n++;
     }
 }

@@ -1,0 +1,9 @@
+class A {
+    static int f(int[] a) {
+        int s = 0;
+        for (@IndexFor("a") int i = 0; i < a.length; i++) {
+            s += a[i];
+        }
+        return s;
+    }
+}
