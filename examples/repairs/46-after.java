@@ -1,12 +1,15 @@
 class A {
-    final int @MinLen(1) [] t = new int[3];
+    final int[] t;
 
-    int at(@IndexFor("t") int i) {
-        return t[i];
+    A(@NonNegative int n) {
+        t = new int[n];
     }
 
-    static int f(A a) {
-        int[] t = a.t;
-        return a.at(0);
+    static int f(@Positive int n) {
+        A a = new A(n);
+        if (n > a.t.length) {
+            throw new X();
+        }
+        return a.t[n - 1];
     }
 }

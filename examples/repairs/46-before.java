@@ -1,11 +1,12 @@
 class A {
-    final int @MinLen(1) [] t = new int[3];
+    final int[] t;
 
-    int at(@IndexFor("t") int i) {
-        return t[i];
+    A(@NonNegative int n) {
+        t = new int[n];
     }
 
-    static int f(A a) {
-        return a.at(0);
+    static int f(@Positive int n) {
+        A a = new A(n);
+        return a.t[n - 1];
     }
 }

@@ -1,11 +1,12 @@
 class A {
-    int n;
+    final int @MinLen(1) [] t = new int[3];
 
-    A() {
-        n = 0;
+    int at(@IndexFor("t") int i) {
+        return t[i];
     }
 
-    void reset() {
-        n = 0;
+    static int f(A a) {
+        int[] t = a.t;
+        return a.at(0);
     }
 }

@@ -1,11 +1,11 @@
 class A {
-    int n;
+    final int @MinLen(1) [] t = new int[3];
 
-    A() {
-        reset();
+    int at(@IndexFor("t") int i) {
+        return t[i];
     }
 
-    void reset() {
-        n = 0;
+    static int f(A a) {
+        return a.at(0);
     }
 }

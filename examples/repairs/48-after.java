@@ -1,5 +1,11 @@
 class A {
-    static @SearchIndexFor("#1") int f(int[] a, @IndexOrHigh("#1") int i) {
-        return ~i;
+    int n;
+
+    A() {
+        n = 0;
+    }
+
+    void reset() {
+        n = 0;
     }
 }

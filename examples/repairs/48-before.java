@@ -1,5 +1,11 @@
 class A {
-    static @SearchIndexFor("#1") int f(int[] a, @IndexOrHigh("#1") int i) {
-        return -(i + 1);
+    int n;
+
+    A() {
+        reset();
+    }
+
+    void reset() {
+        n = 0;
     }
 }

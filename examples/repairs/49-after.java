@@ -1,5 +1,5 @@
 class A {
-    static @IndexOrHigh("#1") int f(int[] a, @NegativeIndexFor("#1") int r) {
-        return ~r;
+    static @SearchIndexFor("#1") int f(int[] a, @IndexOrHigh("#1") int i) {
+        return ~i;
     }
 }

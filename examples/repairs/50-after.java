@@ -1,12 +1,5 @@
 class A {
-    static int f(int @MinLen(1) [] a, int h) {
-        int r = h % a.length;
-        if (r < 0) {
-            r += a.length;
-        }
-        if (r >= 0) {
-            return a[r];
-        }
-        return 0;
+    static @IndexOrHigh("#1") int f(int[] a, @NegativeIndexFor("#1") int r) {
+        return ~r;
     }
 }

@@ -1,9 +1,5 @@
 class A {
-    static int f(int @MinLen(1) [] a, int h) {
-        int r = h % a.length;
-        if (r < 0) {
-            r += a.length;
-        }
-        return a[r];
+    static @IndexOrHigh("#1") int f(int[] a, @NegativeIndexFor("#1") int r) {
+        return -(r + 1);
     }
 }

@@ -1,7 +1,5 @@
 class A {
-    static int[] f(@IntRange(from = 1, to = 1000000) int n, int x) {
-        int[] b = new int[2 * n];
-        b[n] = x;
-        return b;
+    static int f(int @MinLen(1) [] a) {
+        return a[a.length >> 1];
     }
 }

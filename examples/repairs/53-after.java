@@ -1,9 +1,7 @@
 class A {
-    static int[] f(@IntRange(from = 0, to = 1000000) int n) {
+    static int[] f(@IntRange(from = 1, to = 1000000) int n, int x) {
         int[] b = new int[n + n];
-        for (int i = 0; i < n; i++) {
-            b[i + i] = i;
-        }
+        b[n] = x;
         return b;
     }
 }

@@ -1,12 +1,9 @@
 class A {
-    static int[] f(@IntRange(from = 0, to = 9) int n) {
-        int[] r = new int[n + n];
+    static int[] f(@IntRange(from = 0, to = 1000000) int n) {
+        int[] b = new int[n + n];
         for (int i = 0; i < n; i++) {
-            r[i] = i;
+            b[i + i] = i;
         }
-        for (int j = 0; j < n; j++) {
-            r[n + j] = j;
-        }
-        return r;
+        return b;
     }
 }

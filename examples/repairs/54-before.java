@@ -1,15 +1,9 @@
 class A {
-    static int[] f(@IntRange(from = 0, to = 9) int n) {
-        int[] r = new int[n + n];
-        int k = 0;
+    static int[] f(@IntRange(from = 0, to = 1000000) int n) {
+        int[] b = new int[n + n];
         for (int i = 0; i < n; i++) {
-            r[k] = i;
-            k++;
+            b[2 * i] = i;
         }
-        for (int j = 0; j < n; j++) {
-            r[k] = j;
-            k++;
-        }
-        return r;
+        return b;
     }
 }

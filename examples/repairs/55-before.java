@@ -1,26 +1,14 @@
 class A {
-    static int[] f(int[] a, int[] b) {
-        int n = a.length;
-        int m = b.length;
-        if (n > 1000000 || m > 1000000) {
-            throw new X();
-        }
-        int[] r = new int[n + m];
-        int i = 0;
-        int j = 0;
+    static int[] f(@IntRange(from = 0, to = 9) int n) {
+        int[] r = new int[n + n];
         int k = 0;
-        while (i < n && j < m) {
-            if (a[i] <= b[j]) {
-                r[k++] = a[i++];
-            } else {
-                r[k++] = b[j++];
-            }
+        for (int i = 0; i < n; i++) {
+            r[k] = i;
+            k++;
         }
-        while (i < n) {
-            r[k++] = a[i++];
-        }
-        while (j < m) {
-            r[k++] = b[j++];
+        for (int j = 0; j < n; j++) {
+            r[k] = j;
+            k++;
         }
         return r;
     }

@@ -1,11 +1,26 @@
 class A {
-    static int[] f(int[] a, @IndexOrHigh("#1") int from, @IndexOrHigh("#1") int to) {
-        if (from > to) {
+    static int[] f(int[] a, int[] b) {
+        int n = a.length;
+        int m = b.length;
+        if (n > 1000000 || m > 1000000) {
             throw new X();
         }
-        int[] r = new int[to - from];
-        for (int i = from; i < to; i++) {
-            r[i - from] = a[i];
+        int[] r = new int[n + m];
+        int i = 0;
+        int j = 0;
+        int k = 0;
+        while (i < n && j < m) {
+            if (a[i] <= b[j]) {
+                r[k++] = a[i++];
+            } else {
+                r[k++] = b[j++];
+            }
+        }
+        while (i < n) {
+            r[k++] = a[i++];
+        }
+        while (j < m) {
+            r[k++] = b[j++];
         }
         return r;
     }

@@ -1,11 +1,13 @@
 class A {
-    static void f(int[] a, int[] b) {
-        int n = a.length;
-        if (b.length <= n) {
+    static int[] f(int[] a, @IndexOrHigh("#1") int from, @IndexOrHigh("#1") int to) {
+        if (from > to) {
             throw new X();
         }
+        int n = to - from;
+        int[] r = new int[n];
         for (int i = 0; i < n; i++) {
-            b[i + 1] = a[i];
+            r[i] = a[from + i];
         }
+        return r;
     }
 }

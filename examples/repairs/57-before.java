@@ -1,7 +1,12 @@
 class A {
-    static void f(int[] a, int[] b) {
-        for (int i = 0; i < a.length; i++) {
-            b[i + 1] = a[i];
+    static int[] f(int[] a, @IndexOrHigh("#1") int from, @IndexOrHigh("#1") int to) {
+        if (from > to) {
+            throw new X();
         }
+        int[] r = new int[to - from];
+        for (int i = from; i < to; i++) {
+            r[i - from] = a[i];
+        }
+        return r;
     }
 }

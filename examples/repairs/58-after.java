@@ -1,12 +1,11 @@
 class A {
-    static int f(int[] a, @NonNegative int w, @NonNegative int r, @NonNegative int c) {
-        if (c >= w) {
-            return 0;
+    static void f(int[] a, int[] b) {
+        int n = a.length;
+        if (b.length <= n) {
+            throw new X();
         }
-        int k = r * w + c;
-        if (k >= 0 && k < a.length) {
-            return a[k];
+        for (int i = 0; i < n; i++) {
+            b[i + 1] = a[i];
         }
-        throw new X();
     }
 }

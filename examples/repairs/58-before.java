@@ -1,8 +1,7 @@
 class A {
-    static int f(int[] a, @NonNegative int w, @NonNegative int r, @NonNegative int c) {
-        if (c >= w) {
-            return 0;
+    static void f(int[] a, int[] b) {
+        for (int i = 0; i < a.length; i++) {
+            b[i + 1] = a[i];
         }
-        return a[r * w + c];
     }
 }

@@ -1,10 +1,12 @@
 class A {
-    final int[] t = new int[9];
-    @IndexFor("t") int h;
-
-    int f() {
-        int k = h;
-        int n = t.length;
-        return t[n - k - 1];
+    static int f(int[] a, @NonNegative int w, @NonNegative int r, @NonNegative int c) {
+        if (c >= w) {
+            return 0;
+        }
+        int k = r * w + c;
+        if (k >= 0 && k < a.length) {
+            return a[k];
+        }
+        throw new X();
     }
 }

@@ -1,10 +1,8 @@
 class A {
-    final int[] t = new int[9];
-    @IndexFor("t") int h;
-
-    int f() {
-        int n = t.length;
-        int k = h;
-        return t[n - k - 1];
+    static int f(int[] a, @NonNegative int w, @NonNegative int r, @NonNegative int c) {
+        if (c >= w) {
+            return 0;
+        }
+        return a[r * w + c];
     }
 }

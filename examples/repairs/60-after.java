@@ -1,11 +1,10 @@
 class A {
-    static int f(int[] a, @NonNegative int p, @LTLengthOf("#1") int k) {
-        if (p > k) {
-            return 0;
-        }
-        if (p == k) {
-            return 0;
-        }
-        return a[p + 1];
+    final int[] t = new int[9];
+    @IndexFor("t") int h;
+
+    int f() {
+        int k = h;
+        int n = t.length;
+        return t[n - k - 1];
     }
 }

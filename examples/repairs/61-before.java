@@ -1,9 +1,11 @@
 class A {
-    static int f(int[] a) {
-        int s = 0;
-        for (@IndexFor("a") int i = 0; i < a.length; i++) {
-            s += a[i];
+    static int f(int[] a, @NonNegative int p, @LTLengthOf("#1") int k) {
+        if (p == k) {
+            return 0;
         }
-        return s;
+        if (p > k) {
+            return 0;
+        }
+        return a[p + 1];
     }
 }

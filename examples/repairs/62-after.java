@@ -1,14 +1,9 @@
 class A {
     static int f(int[] a) {
-        int at = -1;
+        int s = 0;
         for (int i = 0; i < a.length; i++) {
-            if (a[i] == 0) {
-                at = i;
-            }
+            s += a[i];
         }
-        if (at >= 0) {
-            return a[at];
-        }
-        return 0;
+        return s;
     }
 }

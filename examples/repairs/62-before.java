@@ -1,16 +1,9 @@
 class A {
     static int f(int[] a) {
-        int at = -1;
-        boolean found = false;
-        for (int i = 0; i < a.length; i++) {
-            if (a[i] == 0) {
-                at = i;
-                found = true;
-            }
+        int s = 0;
+        for (@IndexFor("a") int i = 0; i < a.length; i++) {
+            s += a[i];
         }
-        if (found) {
-            return a[at];
-        }
-        return 0;
+        return s;
     }
 }

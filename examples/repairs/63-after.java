@@ -1,9 +1,14 @@
 class A {
-    static int f(int @MinLen(2) [] a, @IntRange(from = 0, to = 1) int[] p, @IndexFor("#2") int i) {
-        return a[p[i]];
-    }
-
-    static int g() {
-        return f(new int[2], new @IntRange(from = 0, to = 1) int[] { 1, 0 }, 1);
+    static int f(int[] a) {
+        int at = -1;
+        for (int i = 0; i < a.length; i++) {
+            if (a[i] == 0) {
+                at = i;
+            }
+        }
+        if (at >= 0) {
+            return a[at];
+        }
+        return 0;
     }
 }

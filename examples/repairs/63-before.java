@@ -1,9 +1,16 @@
 class A {
-    static int f(int @MinLen(2) [] a, int[] p, @IndexFor("#2") int i) {
-        return a[p[i]];
-    }
-
-    static int g() {
-        return f(new int[2], new int[] { 1, 0 }, 1);
+    static int f(int[] a) {
+        int at = -1;
+        boolean found = false;
+        for (int i = 0; i < a.length; i++) {
+            if (a[i] == 0) {
+                at = i;
+                found = true;
+            }
+        }
+        if (found) {
+            return a[at];
+        }
+        return 0;
     }
 }

@@ -1,9 +1,9 @@
 class A {
-    static int f(int[] a, @NonNegative int[] p, @IndexFor("#2") int i) {
-        int j = p[i];
-        if (j >= a.length) {
-            throw new X();
-        }
-        return a[j];
+    static int f(int @MinLen(2) [] a, @IntRange(from = 0, to = 1) int[] p, @IndexFor("#2") int i) {
+        return a[p[i]];
+    }
+
+    static int g() {
+        return f(new int[2], new @IntRange(from = 0, to = 1) int[] { 1, 0 }, 1);
     }
 }

@@ -1,6 +1,9 @@
 class A {
-    static int f(int[] a, @IndexFor("#1") int[] p, @IndexFor("#2") int i) {
-        int j = p[i];
-        return a[j];
+    static int f(int @MinLen(2) [] a, int[] p, @IndexFor("#2") int i) {
+        return a[p[i]];
+    }
+
+    static int g() {
+        return f(new int[2], new int[] { 1, 0 }, 1);
     }
 }

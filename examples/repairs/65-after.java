@@ -1,18 +1,9 @@
 class A {
-    static @IndexOrLow("#1") int link(int[] next, int at) {
-        if (at >= -1 && at < next.length) {
-            return at;
+    static int f(int[] a, @NonNegative int[] p, @IndexFor("#2") int i) {
+        int j = p[i];
+        if (j >= a.length) {
+            throw new X();
         }
-        throw new X();
-    }
-
-    static int last(int[] next, @IndexOrLow("#1") int from) {
-        int at = from;
-        int end = -1;
-        while (at != -1) {
-            end = at;
-            at = link(next, next[at]);
-        }
-        return end;
+        return a[j];
     }
 }

@@ -1,11 +1,6 @@
 class A {
-    static int last(int[] next, @IndexOrLow("#1") int from) {
-        int at = from;
-        int end = -1;
-        while (at != -1) {
-            end = at;
-            at = next[at];
-        }
-        return end;
+    static int f(int[] a, @IndexFor("#1") int[] p, @IndexFor("#2") int i) {
+        int j = p[i];
+        return a[j];
     }
 }

@@ -1,0 +1,7 @@
+class A {
+    int size;
+
+    int count() {
+        return size;
+    }
+}

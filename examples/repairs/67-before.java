@@ -1,0 +1,7 @@
+class A {
+    int size;
+
+    int size() {
+        return size;
+    }
+}
