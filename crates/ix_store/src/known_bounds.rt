@@ -99,27 +99,27 @@ impl Know for Known {
     }
 
     fn lo(&self, p: &Path) -> i64 {
-        bounds::lower_bound(self, p)
+        ix_bounds::lower_bound(self, p)
     }
 
     fn hi(&self, p: &Path) -> i64 {
-        bounds::upper_limit(self, p)
+        ix_bounds::upper_limit(self, p)
     }
 
     fn len_lo(&self, a: &Path) -> i64 {
-        bounds::length_low(self, a)
+        ix_bounds::length_low(self, a)
     }
 
     fn len_hi(&self, a: &Path) -> i64 {
-        bounds::length_high(self, a)
+        ix_bounds::length_high(self, a)
     }
 
     fn upper(&self, p: &Path, a: &Path, offset: &PathOff) -> Option<i64> {
-        bounds::upper_bound(self, p, a, offset)
+        ix_bounds::upper_bound(self, p, a, offset)
     }
 
     fn less(&self, p: &Path, q: &Path) -> Option<i64> {
-        Some(bounds::less_bound(self, p, q))
+        Some(ix_bounds::less_bound(self, p, q))
     }
 
     fn difference(&self, p: &Path, q: &Path) -> Option<i64> {
@@ -127,19 +127,19 @@ impl Know for Known {
     }
 
     fn same(&self, a: &Path, b: &Path) -> bool {
-        bounds::stored_same(self, a, b)
+        ix_bounds::stored_same(self, a, b)
     }
 
     fn is_len(&self, p: &Path, a: &Path) -> bool {
-        bounds::has_length(self, p, a)
+        ix_bounds::has_length(self, p, a)
     }
 
     fn search(&self, p: &Path, a: &Path) -> bool {
-        bounds::has_search(self, p, a)
+        ix_bounds::has_search(self, p, a)
     }
 
     fn negative(&self, p: &Path, a: &Path) -> bool {
-        bounds::has_negative(self, p, a)
+        ix_bounds::has_negative(self, p, a)
     }
 
     fn ints(&self) -> u128 {
