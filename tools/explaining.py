@@ -49,6 +49,12 @@ def annotations(claim):
     return []
 
 
+def claiming():
+    """The names of the annotations that are told of claims."""
+    texts = [text for _, annotations in CLAIMS for text in annotations] + post_annotation("", "value < a.length")
+    return {text.split("(")[0] for text in texts}
+
+
 def of_claim(error):
     """The line on the annotations of the claim that an error tells."""
     subject, _, claim = error.claim.partition(": ")
