@@ -9,7 +9,6 @@ import sources
 
 GAP = re.compile(r"[ \t\f\r\n]+|//[^\r\n]*|/\*.*?\*/", re.S)
 HEAD = re.compile(r"(?:package|import)(?![\w$])")
-NOT_BLANK = re.compile(r"[^ \t\f\r\n]")
 
 # A line that is told: of which file, where, and the words behind the place. The file, or the place, may be missing.
 Told = collections.namedtuple("Told", "file line column words")

@@ -47,11 +47,6 @@ def demand(script):
         leave(script, missing(), NO_PROGRAM)
 
 
-def leave(script, words, status=USAGE):
-    print(f"{script}: {words}" if script else words, file=sys.stderr)
-    sys.exit(status)
-
-
 def write(stream, data):
     """Writes bytes to a stream of the process, and ends the script where that takes no more."""
     try:
@@ -61,17 +56,23 @@ def write(stream, data):
         os._exit(WRITE_FAILED)
 
 
+def leave(script, words, status=USAGE):
+    """Ends a script with words on standard error, behind its name where one is given."""
+    write(sys.stderr, (f"{script}: {words}\n" if script else f"{words}\n").encode("utf-8", "surrogateescape"))
+    sys.exit(status)
+
+
 class Answer:
     """What `check` said of a text: its status, its last line, its errors, and why it was not judged; nothing where it was."""
 
     def __init__(self, status, out, err):
-        lines = out.splitlines()
+        lines = out.split("\n")[:-1]
         self.last = lines[-1] if lines else ""
         every = [error_of(line) for line in lines[:-1]]
         self.errors = [error for error in every if error]
         accepted = status == 0 and not every and self.last.startswith("accepted: ")
         rejected = status == 1 and all(every) and self.last == f"rejected: {len(every)} errors"
-        self.failure = None if accepted or rejected else failure_of(status, err.splitlines())
+        self.failure = None if accepted or rejected else failure_of(status, err.split("\n")[:-1])
         self.status = status if not self.failure or status > 1 else 128 - status if status < 0 else NO_PROGRAM
 
 
