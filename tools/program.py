@@ -76,13 +76,18 @@ class Answer:
         self.status = status if not self.failure or status > 1 else 128 - status if status < 0 else NO_PROGRAM
 
 
+def key_and_claim(words):
+    """The key of an error, and whom it speaks of with a claim, of the words behind its place."""
+    key, _, claim = words.partition(": ")
+    return key, claim
+
+
 def error_of(line):
     """The error that a line tells; nothing where it tells none."""
     found = LINE.fullmatch(line)
     if not found or not found[1]:
         return None
-    key, _, claim = found[3].partition(": ")
-    return Error(int(found[1]), int(found[2]), key, claim)
+    return Error(int(found[1]), int(found[2]), *key_and_claim(found[3]))
 
 
 def failure_of(status, lines):
