@@ -6,24 +6,14 @@ import pages
 import program
 import sources
 
-NAME = r"((?:this\.)?[\w$]+)"
-# The words of a claim, and the annotations that say it: first the one that says it alone, then those that say it beside another claim.
-CLAIMS = [(re.compile(words.replace("NAME", NAME)), annotations) for words, annotations in (
-    (r"value >= 0", ("@NonNegative", "@IndexFor", "@IndexOrHigh")),
-    (r"value >= 1", ("@Positive",)),
-    (r"value >= -1", ("@GTENegativeOne", "@IndexOrLow")),
-    (r"value in (-?\d+)\.\.(-?\d+)", ("@IntRange(from = {0}, to = {1})",)),
-    (r"value < NAME\.length", ('@LTLengthOf("{0}")', '@IndexFor("{0}")', '@IndexOrLow("{0}")')),
-    (r"value - 1 < NAME\.length", ('@LTEqLengthOf("{0}")', '@IndexOrHigh("{0}")')),
-    (r"value \+ 1 < NAME\.length", ('@LTOMLengthOf("{0}")',)),
-    (r"value((?: [+-] [\w$.]+)+) < NAME\.length", ('@LTLengthOf(value = "{1}", offset = "{0}")',)),
-    (r"value < (NAME(?: [+-] \d+)?)", ('@LessThan("{0}")',)),
-    (r"length == NAME\.length", ('@SameLen("{0}")',)),
-    (r"length >= (-?\d+)", ("@MinLen({0})",)),
-    (r"value in -NAME\.length - 1 \.\. NAME\.length - 1", ('@SearchIndexFor("{0}")',)),
-    (r"value in -NAME\.length - 1 \.\. -1", ('@NegativeIndexFor("{0}")',)),
-)]
-POST = re.compile(r"value((?: [+-] [\w$.]+)*) < " + NAME + r"\.length")
+NAME = r"(?:this\.)?[\w$]+"
+SHIFT = r"(?: [+-] [\w$.]+)+"
+POST = re.compile(f"value((?:{SHIFT})?) < ({NAME})" + r"\.length")
+ANNOTATION = re.compile(r"@\w+(?:\([^)]*\))?")
+# What an annotation may take from the words of its claim: a text in quotes, or a number outside them.
+TAKEN = re.compile(r'"([^"]*)"|(?<=[ (])(\d+)')
+# Where a row of ERRORS.md has a number, a name, or a name and a number that its annotations take, other claims have another one.
+FORMS = ((r"\d+", r"-?\d+"), (r"[\w$]+", NAME), (r"[\w$]+ [+-] \d+", NAME + r" [+-] \d+"))
 
 
 def offset(words):
@@ -31,39 +21,55 @@ def offset(words):
     return words[3:] if words.startswith(" + ") else "-" + words[3:] if words.startswith(" - ") else words
 
 
-def post_annotation(subject, claim):
-    """The annotations that promise a bound of a parameter or a field where a method returns."""
-    found = POST.fullmatch(claim)
-    if not found:
-        return []
-    bound = f'targetValue = "{found[2]}"' + (f', offset = "{offset(found[1])}"' if found[1] else "")
-    return [f'@EnsuresLTLengthOf(value = "{subject}", {bound})', f'@EnsuresLTLengthOfIf(expression = "{subject}", result = .., {bound})']
+def claims():
+    """The rows of ERRORS.md on claims: a pattern for the words, the texts that stand in its groups there, and the annotations."""
+    for row in pages.claims():
+        annotations = ANNOTATION.findall(row["annotation"])
+        texts = [text or number for annotation in annotations for text, number in TAKEN.findall(annotation)]
+        forms = {text: next(form for shape, form in FORMS if re.fullmatch(shape, text)) for text in texts}
+        forms.update({f" + {text}": SHIFT for annotation in annotations for text in re.findall(r'offset = "([^"]*)"', annotation)})
+        # An added part begins with a blank; a name or a number isn't a part of a word.
+        parts = "|".join(("" if part.startswith(" ") else r"(?<!\w)") + re.escape(part) for part in sorted(forms, key=len, reverse=True))
+        pieces = re.split(rf"({parts})(?!\w)", row["claim"].strip("`")) if forms else [row["claim"].strip("`")]
+        words = "".join(f"({forms[piece]})" if at % 2 else re.escape(piece) for at, piece in enumerate(pieces))
+        yield re.compile(words), [offset(piece) for piece in pieces[1::2]], annotations
 
 
-def annotations(claim):
+def filled(annotation, values):
+    """An annotation with the texts of a claim in place of the row's; where the claim doesn't have them its name alone."""
+    if not all((text or number) in values for text, number in TAKEN.findall(annotation)):
+        return annotation.split("(")[0]
+    return TAKEN.sub(lambda found: values[found[2]] if found[2] else f'"{values[found[1]]}"', annotation)
+
+
+def annotations_of(claim):
     """The annotations that say a claim, told without its subject."""
-    for pattern, texts in CLAIMS:
+    for pattern, texts, annotations in claims():
         found = pattern.fullmatch(claim)
         if found:
-            return [text.format(*map(offset, found.groups())) for text in texts]
+            values = dict(zip(texts, map(offset, found.groups())))
+            return [filled(annotation, values) for annotation in annotations]
     return []
+
+
+def post_annotations(subject, claim):
+    """The annotations that promise a bound of a parameter or a field where a method returns."""
+    added, array = POST.fullmatch(claim).groups()
+    bound = f'targetValue = "{array}"' + (f', offset = "{offset(added)}"' if added else "")
+    return [f'@EnsuresLTLengthOf(value = "{subject}", {bound})', f'@EnsuresLTLengthOfIf(expression = "{subject}", result = .., {bound})']
 
 
 def claiming():
     """The names of the annotations that are told of claims."""
-    texts = [text for _, annotations in CLAIMS for text in annotations] + post_annotation("", "value < a.length")
+    texts = [annotation for _, _, annotations in claims() for annotation in annotations] + post_annotations("", "value < a.length")
     return {text.split("(")[0] for text in texts}
 
 
 def of_claim(error):
     """The line on the annotations of the claim that an error tells."""
     subject, _, claim = error.claim.partition(": ")
-    if error.key == "post.claim":
-        return f"{claim} of {subject}: promised by {' or '.join(post_annotation(subject, claim))}"
-    said = annotations(claim)
-    if not said:
-        return f"{claim} of {subject}"
-    return f"{claim} of {subject}: said by {said[0]}" + (f", and beside another claim by {', '.join(said[1:])}" if said[1:] else "")
+    said = post_annotations(subject, claim) if error.key == "post.claim" else annotations_of(claim)
+    return f"{claim} of {subject}: said by {' or '.join(said)}"
 
 
 def caret(line, column):

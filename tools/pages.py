@@ -35,6 +35,11 @@ def limits():
     return {name: row for (_, limit, name), row in rows if limit}
 
 
+def claims():
+    """The rows of ERRORS.md on claims."""
+    return [row for _, row in tables("ERRORS.md") if "claim" in row]
+
+
 def repairs():
     """The rows of REPAIRS.md, each with its heading."""
     return [(heading, row) for heading, row in tables("REPAIRS.md") if "keys" in row]
