@@ -98,7 +98,8 @@ def of_repair(number):
     """The lines on a row of REPAIRS.md; none where no row has the number."""
     for heading, row in pages.repairs():
         if pages.number(row) == number:
-            return [f"{number} {heading}: {row['why']}", *(f"  {head}: {cell}" for head, cell in row.items() if head not in ("", "why"))]
+            parts = [f"  {head}: {cell}" for head, cell in row.items() if head not in ("", "why")]
+            return [f"{number} {heading}: {row['why']}", *parts, f"  whole sources: {' '.join(pages.sources(row))}"]
     return []
 
 

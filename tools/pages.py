@@ -5,6 +5,7 @@ import re
 import program
 
 LINK = re.compile(r"\[([^]]*)\]\([^)]*\)")
+ROWS = re.compile(r"; rows? [\d, to]+$")
 CELL = re.compile(r"(?<!\\)\|")
 
 
@@ -25,8 +26,8 @@ def tables(page):
 
 
 def keys():
-    """The row of each key of ERRORS.md."""
-    return {row["key"].strip("`"): row for _, row in tables("ERRORS.md") if "key" in row}
+    """The row of each key of ERRORS.md, without the numbers of the rows of REPAIRS.md, which `repairs` has."""
+    return {row["key"].strip("`"): {**row, "usual repair": ROWS.sub("", row["usual repair"])} for _, row in tables("ERRORS.md") if "key" in row}
 
 
 def limits():
@@ -48,3 +49,8 @@ def repairs():
 def number(row):
     """The number of a row of REPAIRS.md."""
     return row[""]
+
+
+def sources(row):
+    """The whole sources of a row of REPAIRS.md, from the top on."""
+    return [f"examples/repairs/{number(row)}-{state}.java" for state in ("before", "after")]
