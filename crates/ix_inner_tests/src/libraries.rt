@@ -3,7 +3,7 @@
 ghost use Rattle.ix_core.specs.Formed.{Formed};
 ghost use Rattle.ix_core.specs.Ready.{CanCheck};
 
-use ix_annot::{AnnotError, Scope, Target, claims};
+use ix_annot::{AnnotError, Claims, Scope, Target, claims};
 use ix_certify::write;
 use ix_check::{check_joined, method_errors};
 use ix_core::{Claim, Error, Profile, Program};
@@ -11,7 +11,7 @@ use ix_front::{Finding, of_bytes};
 use ix_meaning::NameError;
 use ix_text::{List, Span, Text};
 use ix_tree::{Annot, Ident};
-use std::alloc::{AllocError, Global};
+use std::alloc::Global;
 
 /// An index that may be too high in the first method, and two in the second one, whose name stands at byte 60.
 const HIGH: &[u8] =
@@ -143,8 +143,8 @@ fn misfit_agrees(alloc: Global) -> bool {
     }
 }
 
-/// `@NonNegative` on what is given.
-fn non_negative_on(alloc: Global, target: Target) -> Result<(Annot, Scope), AllocError> {
+/// What `@NonNegative` claims of what is given.
+fn claims_on(alloc: Global, target: Target) -> Result<Claims, AnnotError> {
     let span = Span { from: 0, to: 12 };
     let name = Ident {
         text: Text::from_str(alloc, "NonNegative")?,
@@ -162,20 +162,20 @@ fn non_negative_on(alloc: Global, target: Target) -> Result<(Annot, Scope), Allo
         target,
         own: None,
     };
-    Ok((annot, scope))
+    claims(alloc, &annot, &scope)
 }
 
 /// Whether `@NonNegative` claims that an int is at least 0, and is refused on an array.
-fn claims_agree(alloc: Global) -> Result<bool, AllocError> {
-    let (annot, scope) = non_negative_on(alloc, Target::Int)?;
-    let on_int = claims(alloc, &annot, &scope);
-    let (annot, scope) = non_negative_on(alloc, Target::Array)?;
-    let on_array = claims(alloc, &annot, &scope);
-    let is_claim = match &on_int {
+fn claims_agree(alloc: Global) -> bool {
+    let is_claim = match claims_on(alloc, Target::Int) {
         Ok(found) => matches!(found.list.as_slice(), [Claim::Low(0)]),
         Err(_) => false,
     };
-    Ok(is_claim && matches!(on_array, Err(AnnotError::WrongTarget)))
+    is_claim
+        && matches!(
+            claims_on(alloc, Target::Array),
+            Err(AnnotError::WrongTarget)
+        )
 }
 
 #[test]
@@ -195,5 +195,5 @@ fn ends_of_errors_on_names(rt: HostRuntime) {
 
 #[test]
 fn claims_of_one_annotation(rt: HostRuntime) {
-    assert!(rt; claims_agree(rt.alloc()) == Ok(true));
+    assert!(rt; claims_agree(rt.alloc()));
 }

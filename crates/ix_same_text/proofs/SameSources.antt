@@ -9,7 +9,7 @@ use Rattle.ix_core.specs.Traces.{Observation}
 use Rattle.ix_tree.specs.declared.decl.Unit.{Unit as Source}
 use Rattle.ix_source.specs.Source.{Shown, source}
 use Rattle.ix_source.specs.Seen.{seen}
-use Rattle.ix_source.specs.Whole.{Same, Begins, Keeps, IsKept}
+use Rattle.ix_source.specs.Whole.{Same, Keeps, IsKept}
 use Rattle.ix_formed.specs.Parsed.{IsParsed}
 use Rattle.ix_formed.proofs.FieldsFit.{IsAccepted}
 use Rattle.ix_meaning.proofs.FewDeclarations.{few_members}
